@@ -1,0 +1,152 @@
+// The content of a frame: its first element, with each field known to have one of its values.
+ghost use mathlib.Core.Path.{_≡_};
+ghost use Prim.Native.Nat.{_≤_};
+ghost use lib.Dec.{leb};
+ghost use Rattle.layout.specs.Elements.{inValues, isPriority};
+ghost use Rattle.element.specs.Shown.{Passes, elementShown};
+ghost use Rattle.frame.specs.Shown.{roleNumber, stateNumber, blockedNumber, contentShown, contentKind, SameLink};
+ghost use mathlib.Core.Bool.{_&&_};
+use element::Element;
+use element::LinkContent;
+use element::Part;
+use kind::Kind;
+
+#[derive(Clone, Copy, Debug)]
+pub enum PortRole {
+    Primary = 0,
+    Secondary = 1,
+}
+
+impl PortRole {
+    pub fn of(number: u16) -> Option<PortRole>
+        ensures { λ r. ⌜ Passes r (leb number 1) (λ role. roleNumber role ≡ number) ⌝ }
+    {
+        match number {
+            0 => Some(PortRole::Primary),
+            1 => Some(PortRole::Secondary),
+            _ => None,
+        }
+    }
+
+    pub fn number(self) -> u16
+        ensures { λ r. ⌜ r ≡ roleNumber self ⌝ }
+    {
+        self as u16
+    }
+}
+
+#[derive(Clone, Copy, Debug)]
+pub enum RingState {
+    Open = 0,
+    Closed = 1,
+}
+
+impl RingState {
+    pub fn of(number: u16) -> Option<RingState>
+        ensures { λ r. ⌜ Passes r (leb number 1) (λ state. stateNumber state ≡ number) ⌝ }
+    {
+        match number {
+            0 => Some(RingState::Open),
+            1 => Some(RingState::Closed),
+            _ => None,
+        }
+    }
+
+    pub fn number(self) -> u16
+        ensures { λ r. ⌜ r ≡ stateNumber self ⌝ }
+    {
+        self as u16
+    }
+}
+
+// What a client says of one of its links; `blocked` where it can block.
+#[derive(Clone, Copy)]
+pub struct Link<'a> {
+    pub sender: Part<'a>,
+    pub role: PortRole,
+    pub interval: u16,
+    pub blocked: bool,
+}
+
+impl<'a> Link<'a> {
+    fn of(link: LinkContent<'a>) -> Option<Link<'a>>
+        ensures { λ r. ⌜ Passes r (leb (link .entry .role) 1 && leb (link .entry .blocked) 1) (λ l. SameLink l (link .entry)) ⌝ }
+    {
+        let role = PortRole::of(link.role)?;
+        let blocked = match link.blocked {
+            0 => false,
+            1 => true,
+            _ => return None,
+        };
+        Some(Link {
+            sender: link.sender,
+            role,
+            interval: link.interval,
+            blocked,
+        })
+    }
+}
+
+#[derive(Clone, Copy)]
+pub enum Content<'a> {
+    Test {
+        priority: u16,
+        sender: Part<'a>,
+        role: PortRole,
+        state: RingState,
+        transitions: u16,
+        stamp: u32,
+    },
+    TopologyChange {
+        priority: u16,
+        sender: Part<'a>,
+        interval: u16,
+    },
+    LinkDown(Link<'a>),
+    LinkUp(Link<'a>),
+}
+
+impl<'a> Content<'a> {
+    // The content of a first element, where each field has one of its values.
+    pub fn of(element: Element<'a>) -> Option<Content<'a>>
+        ensures { λ r. ⌜ Passes r (inValues (elementShown (element .entry))) (λ c. contentShown c ≡ elementShown (element .entry)) ⌝ }
+    {
+        match element {
+            Element::Test { priority, sender, role, state, transitions, stamp } => {
+                if !is_priority(priority) {
+                    return None;
+                }
+                let role = PortRole::of(role)?;
+                let state = RingState::of(state)?;
+                Some(Content::Test { priority, sender, role, state, transitions, stamp })
+            }
+            Element::TopologyChange { priority, sender, interval } => {
+                if !is_priority(priority) {
+                    return None;
+                }
+                Some(Content::TopologyChange { priority, sender, interval })
+            }
+            Element::LinkDown(link) => Some(Content::LinkDown(Link::of(link)?)),
+            Element::LinkUp(link) => Some(Content::LinkUp(Link::of(link)?)),
+            Element::Common { .. } => None,
+            Element::End => None,
+        }
+    }
+
+    pub fn kind(&self) -> Kind
+        ensures { λ r. ⌜ r ≡ contentKind (now (self .entry)) ⌝ }
+    {
+        match self {
+            Content::Test { .. } => Kind::Test,
+            Content::TopologyChange { .. } => Kind::TopologyChange,
+            Content::LinkDown(_) => Kind::LinkDown,
+            Content::LinkUp(_) => Kind::LinkUp,
+        }
+    }
+}
+
+fn is_priority(number: u16) -> bool
+    ensures { λ r. ⌜ r ≡ isPriority number ⌝ }
+{
+    number % 0x1000 == 0
+}

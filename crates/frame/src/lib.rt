@@ -1,0 +1,111 @@
+// Reads MRP frames: every list of octets is a frame with its fields, or is refused by the first check that it fails.
+mod content;
+
+ghost use mathlib.Core.Path.{_≡_};
+ghost use Prim.Native.Nat.{_+_, _≤_};
+ghost use lib.ListN.{length, drop};
+ghost use Rattle.std.specs.Options.{isSome};
+ghost use Rattle.kind.specs.Kinds.{spanOf, goesTo, addressOf};
+ghost use Rattle.layout.specs.Elements.{kindOf, spanAt, addressAt};
+ghost use Rattle.layout.specs.Reading.{reading, allZero};
+ghost use Rattle.element.specs.Shown.{Passes, elementShown};
+ghost use Rattle.frame.specs.Shown.{outcome, FirstOf};
+use element::Element;
+use element::Elements;
+use element::Head;
+use element::Part;
+use kind::Destination;
+use kind::Kind;
+use refusal::Refusal;
+
+pub use content::Content;
+pub use content::Link;
+pub use content::PortRole;
+pub use content::RingState;
+
+#[derive(Clone, Copy)]
+pub struct Frame<'a> {
+    pub source: Part<'a>,
+    pub content: Content<'a>,
+    pub sequence: u16,
+    pub domain: Part<'a>,
+}
+
+pub fn read<'a>(octets: &'a [u8]) -> Result<Frame<'a>, Refusal>
+    ensures { λ r. ⌜ outcome r ≡ reading (now (octets .entry)) ⌝ }
+{
+    let Some(head) = Head::of(octets) else {
+        return Err(Refusal::FrameSize);
+    };
+    let Some(_) = Destination::of(head.destination.octets) else {
+        return Err(Refusal::UnknownDestination);
+    };
+    let 0x88E3 = head.ether_type else {
+        return Err(Refusal::EtherType);
+    };
+    let 1 = head.version else {
+        return Err(Refusal::Version);
+    };
+    let mut elements = Elements {
+        octets,
+        at: head.version_at + 2,
+    };
+    let Some(first) = elements.next_element() else {
+        return Err(Refusal::FirstElement);
+    };
+    let Some(kind) = kind_of(&first) else {
+        return Err(Refusal::FirstElement);
+    };
+    let total = head.version_at + kind.span();
+    let true = total <= octets.len() else {
+        return Err(Refusal::TooShort);
+    };
+    let true = kind.destination().is(head.destination.octets) else {
+        return Err(Refusal::WrongDestination);
+    };
+    let Some(content) = Content::of(first) else {
+        return Err(Refusal::FieldValue);
+    };
+    let Some(Element::Common { sequence, domain }) = elements.next_element() else {
+        return Err(Refusal::NoCommon);
+    };
+    let Some(Element::End) = elements.next_element() else {
+        return Err(Refusal::NoEnd);
+    };
+    let true = zero_from(octets, total) else {
+        return Err(Refusal::Padding);
+    };
+    Ok(Frame {
+        source: head.source,
+        content,
+        sequence,
+        domain,
+    })
+}
+
+// The kind of frame that begins with the element.
+fn kind_of(element: &Element) -> Option<Kind>
+    ensures { λ r. ⌜ Passes r (isSome (kindOf (elementShown (now (element .entry))))) (λ k. FirstOf k (elementShown (now (element .entry)))) ⌝ }
+{
+    match element {
+        Element::Test { .. } => Some(Kind::Test),
+        Element::TopologyChange { .. } => Some(Kind::TopologyChange),
+        Element::LinkDown(_) => Some(Kind::LinkDown),
+        Element::LinkUp(_) => Some(Kind::LinkUp),
+        Element::Common { .. } => None,
+        Element::End => None,
+    }
+}
+
+// Whether all octets from `end` on are zero.
+fn zero_from(octets: &[u8], end: usize) -> bool
+    requires { ⌜ end ≤ length (now octets) ⌝ }
+    ensures { λ r. ⌜ r ≡ allZero (drop end (now (octets .entry))) ⌝ }
+{
+    for octet in &octets[end..] {
+        if *octet != 0 {
+            return false;
+        }
+    }
+    true
+}
