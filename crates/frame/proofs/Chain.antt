@@ -1,16 +1,19 @@
 -- A frame that passed the checks of its head and of its first element is read on at Common.
-use mathlib.Core.Path.{_≡_, refl, sym, ap, _∙_}
-use mathlib.Core.Bool.{Bool, true, false}
+use mathlib.Core.Path.{_≡_, refl, sym, ap, subst, _∙_}
+use mathlib.Core.Bool.{true}
 use mathlib.Core.List.{List}
-use Prim.Native.Nat.{ℕ, _+_}
+use Prim.Native.Nat.{ℕ, _+_, _<_}
 use lib.Dec.{eqb, leb}
-use lib.ListN.{length}
+use lib.ListN.{length, getD}
 use Rattle.std.specs.shelf.Text.{sameBytes}
 use Rattle.std.specs.Options.{isSome}
+use Rattle.std.proofs.shelf.Elements.{all-from-getD}
 use Rattle.std.proofs.shelf.Tests.{eq-eqb}
 use Rattle.kind.specs.Kinds.{destinationOf}
 use Rattle.layout.specs.Elements.{Element, elementAt, sizeOf, kindOf, spanAt, addressAt, inValues}
-use Rattle.layout.specs.Reading.{Head, headOf, isSized, reading, readEnd, readFirst, readHead}
+use Rattle.layout.specs.Reading.{Reading, Head, headOf, isSized, reading, readEnd, readFirst, readHead}
+use Rattle.layout.specs.Layout.{LaidOut}
+use Rattle.layout.proofs.Laid.{accepted-laid-out}
 
 pub record Passed (xs : List ℕ) (h : Head) (first : Element) : Type 0 where
   pub sized : isSized xs ≡ true
@@ -32,3 +35,7 @@ at-common {xs} {h} {first} p =
     let element : readFirst xs h first ≡ readEnd xs h first (h .versionAt + 2 + sizeOf first) =
         rw (p .kind, p .total, p .address, p .values) refl in
     sized ∙ ap (readHead xs) (sym (p .head)) ∙ head ∙ ap (readFirst xs h) (sym (p .element)) ∙ element
+
+-- what is read as the definition says is laid out as its law says
+pub laid-out : (xs : List ℕ) (r : Reading) → ((i : ℕ) → getD xs i 0 < 256) → r ≡ reading xs → LaidOut xs r
+laid-out xs r octets e = subst (LaidOut xs) (sym e) (accepted-laid-out xs (all-from-getD (λ x. x < 256) xs 0 (λ i _. octets i)))

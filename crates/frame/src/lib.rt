@@ -8,6 +8,7 @@ ghost use Rattle.std.specs.Options.{isSome};
 ghost use Rattle.kind.specs.Kinds.{spanOf, goesTo, addressOf};
 ghost use Rattle.layout.specs.Elements.{kindOf, spanAt, addressAt};
 ghost use Rattle.layout.specs.Reading.{reading, allZero};
+ghost use Rattle.layout.specs.Layout.{LaidOut};
 ghost use Rattle.element.specs.Shown.{Passes, elementShown};
 ghost use Rattle.frame.specs.Shown.{outcome, FirstOf};
 use element::Element;
@@ -32,7 +33,8 @@ pub struct Frame<'a> {
 }
 
 pub fn read<'a>(octets: &'a [u8]) -> Result<Frame<'a>, Refusal>
-    ensures { λ r. ⌜ outcome r ≡ reading (now (octets .entry)) ⌝ }
+    ensures value { λ r. ⌜ outcome r ≡ reading (now (octets .entry)) ⌝ }
+    ensures laid_out { λ r. ⌜ LaidOut (now (octets .entry)) (outcome r) ⌝ }
 {
     let Some(head) = Head::of(octets) else {
         return Err(Refusal::FrameSize);

@@ -29,14 +29,30 @@ pub data Element : Type 0 where
 unfoldable pub stands : List ℕ → ℕ → ℕ → ℕ → Bool
 stands xs i t n = eqb (octet xs i) t && (eqb (octet xs (i + 1)) n && leb (i + 2 + n) (length xs))
 
--- the element at place i
+-- the elements that may stand at place i, each by the places of its fields
+abbrev pub testAt : List ℕ → ℕ → Element
+testAt xs i = test (word16 xs (i + 2)) (part xs (i + 4) 6) (word16 xs (i + 10)) (word16 xs (i + 12)) (word16 xs (i + 14)) (word32 xs (i + 16))
+
+abbrev pub topologyChangeAt : List ℕ → ℕ → Element
+topologyChangeAt xs i = topologyChange (word16 xs (i + 2)) (part xs (i + 4) 6) (word16 xs (i + 10))
+
+abbrev pub linkDownAt : List ℕ → ℕ → Element
+linkDownAt xs i = linkDown (part xs (i + 2) 6) (word16 xs (i + 8)) (word16 xs (i + 10)) (word16 xs (i + 12))
+
+abbrev pub linkUpAt : List ℕ → ℕ → Element
+linkUpAt xs i = linkUp (part xs (i + 2) 6) (word16 xs (i + 8)) (word16 xs (i + 10)) (word16 xs (i + 12))
+
+abbrev pub commonAt : List ℕ → ℕ → Element
+commonAt xs i = common (word16 xs (i + 2)) (part xs (i + 4) 16)
+
+-- the element that stands at place i, by its type and length
 unfoldable pub elementAt : List ℕ → ℕ → Element
 elementAt xs i =
-    cond (stands xs i 2 18) (test (word16 xs (i + 2)) (part xs (i + 4) 6) (word16 xs (i + 10)) (word16 xs (i + 12)) (word16 xs (i + 14)) (word32 xs (i + 16)))
-    (cond (stands xs i 3 10) (topologyChange (word16 xs (i + 2)) (part xs (i + 4) 6) (word16 xs (i + 10)))
-    (cond (stands xs i 4 12) (linkDown (part xs (i + 2) 6) (word16 xs (i + 8)) (word16 xs (i + 10)) (word16 xs (i + 12)))
-    (cond (stands xs i 5 12) (linkUp (part xs (i + 2) 6) (word16 xs (i + 8)) (word16 xs (i + 10)) (word16 xs (i + 12)))
-    (cond (stands xs i 1 18) (common (word16 xs (i + 2)) (part xs (i + 4) 16))
+    cond (stands xs i 2 18) (testAt xs i)
+    (cond (stands xs i 3 10) (topologyChangeAt xs i)
+    (cond (stands xs i 4 12) (linkDownAt xs i)
+    (cond (stands xs i 5 12) (linkUpAt xs i)
+    (cond (stands xs i 1 18) (commonAt xs i)
     (cond (stands xs i 0 0) end none)))))
 
 -- how many octets an element has, with its type and length
