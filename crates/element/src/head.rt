@@ -1,5 +1,7 @@
 // The head of a frame: destination, source and type, up to the version.
 ghost use mathlib.Core.Path.{_≡_};
+ghost use Prim.Native.Nat.{_≤_};
+ghost use lib.ListN.{length};
 ghost use Rattle.layout.specs.Reading.{isSized, headOf};
 ghost use Rattle.element.specs.Shown.{Passes, headShown};
 use crate::part::Part;
@@ -24,12 +26,19 @@ impl<'a> Head<'a> {
         let 50..=60 = octets.len() else {
             return None;
         };
-        Some(Head {
-            destination: cut(octets, 0, 6),
-            source: cut(octets, 6, 6),
-            ether_type: word16(octets, 12),
-            version_at: 14,
-            version: word16(octets, 14),
-        })
+        Some(head_of(octets))
+    }
+}
+
+fn head_of<'a>(octets: &'a [u8]) -> Head<'a>
+    requires { ⌜ 16 ≤ length (now octets) ⌝ }
+    ensures { λ r. ⌜ headShown r ≡ headOf (now (octets .entry)) ⌝ }
+{
+    Head {
+        destination: cut(octets, 0, 6),
+        source: cut(octets, 6, 6),
+        ether_type: word16(octets, 12),
+        version_at: 14,
+        version: word16(octets, 14),
     }
 }

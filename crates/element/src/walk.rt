@@ -4,7 +4,7 @@ ghost use Prim.Native.Nat.{_+_, _≤_};
 ghost use lib.ListN.{length};
 ghost use Rattle.std.specs.Options.{Cases};
 ghost use Rattle.layout.specs.Fields.{part as piece, word16 as word};
-ghost use Rattle.layout.specs.Elements.{elementAt, sizeOf, stands};
+ghost use Rattle.layout.specs.Elements.{elementAt, testAt, topologyChangeAt, commonAt, sizeOf, stands};
 ghost use Rattle.element.specs.Shown.{partOf, elementShown, found, isCommon, isEnd, CommonHas};
 use crate::part::Part;
 use crate::part::cut;
@@ -84,30 +84,42 @@ fn element_at<'a>(octets: &'a [u8], at: usize) -> Option<Element<'a>>
         return None;
     }
     match (octets[at], octets[at + 1]) {
-        (2, 18) => Some(Element::Test {
-            priority: word16(octets, at + 2),
-            sender: cut(octets, at + 4, 6),
-            role: word16(octets, at + 10),
-            state: word16(octets, at + 12),
-            transitions: word16(octets, at + 14),
-            stamp: word32(octets, at + 16),
-        }),
-        (3, 10) => Some(Element::TopologyChange {
-            priority: word16(octets, at + 2),
-            sender: cut(octets, at + 4, 6),
-            interval: word16(octets, at + 10),
-        }),
+        (2, 18) => Some(test_at(octets, at)),
+        (3, 10) => Some(topology_change_at(octets, at)),
         (4, 12) => Some(Element::LinkDown(link_content(octets, at + 2))),
         (5, 12) => Some(Element::LinkUp(link_content(octets, at + 2))),
-        (1, 18) => Some(Element::Common {
-            sequence: word16(octets, at + 2),
-            domain: cut(octets, at + 4, 16),
-        }),
+        (1, 18) => Some(common_at(octets, at)),
         (0, 0) => Some(Element::End),
         _ => None,
     }
 }
 
+fn test_at<'a>(octets: &'a [u8], at: usize) -> Element<'a>
+    requires { ⌜ at + 20 ≤ length (now octets) ⌝ }
+    ensures { λ r. ⌜ elementShown r ≡ testAt (now (octets .entry)) at ⌝ }
+{
+    Element::Test {
+        priority: word16(octets, at + 2),
+        sender: cut(octets, at + 4, 6),
+        role: word16(octets, at + 10),
+        state: word16(octets, at + 12),
+        transitions: word16(octets, at + 14),
+        stamp: word32(octets, at + 16),
+    }
+}
+
+fn topology_change_at<'a>(octets: &'a [u8], at: usize) -> Element<'a>
+    requires { ⌜ at + 12 ≤ length (now octets) ⌝ }
+    ensures { λ r. ⌜ elementShown r ≡ topologyChangeAt (now (octets .entry)) at ⌝ }
+{
+    Element::TopologyChange {
+        priority: word16(octets, at + 2),
+        sender: cut(octets, at + 4, 6),
+        interval: word16(octets, at + 10),
+    }
+}
+
+// The content of LinkDown and LinkUp begins at the place.
 fn link_content<'a>(octets: &'a [u8], at: usize) -> LinkContent<'a>
     requires { ⌜ at + 12 ≤ length (now octets) ⌝ }
     ensures sender { λ r. ⌜ partOf (r .sender) ≡ piece (now (octets .entry)) at 6 ⌝ }
@@ -120,6 +132,16 @@ fn link_content<'a>(octets: &'a [u8], at: usize) -> LinkContent<'a>
         role: word16(octets, at + 6),
         interval: word16(octets, at + 8),
         blocked: word16(octets, at + 10),
+    }
+}
+
+fn common_at<'a>(octets: &'a [u8], at: usize) -> Element<'a>
+    requires { ⌜ at + 20 ≤ length (now octets) ⌝ }
+    ensures { λ r. ⌜ elementShown r ≡ commonAt (now (octets .entry)) at ⌝ }
+{
+    Element::Common {
+        sequence: word16(octets, at + 2),
+        domain: cut(octets, at + 4, 16),
     }
 }
 

@@ -9,6 +9,7 @@ use Rattle.refusal.specs.Refusals.{numberOf}
 use Rattle.kind.specs.declared.Kind as kind
 use Rattle.kind.specs.declared.Kind.the-variants as kinds
 use Rattle.kind.specs.Kinds.{spanOf, goesTo, addressOf}
+use Rattle.layout.specs.Fields.{Part}
 use Rattle.layout.specs.Elements.{Element, kindOf, spanAt, addressAt, test, topologyChange, linkDown, linkUp}
 use Rattle.layout.specs.Reading.{Reading, refused, accepted}
 use Rattle.element.specs.Shown.{partOf}
@@ -40,6 +41,12 @@ contentShown (Test p s r t n c) = test p (partOf s) (roleNumber r) (stateNumber 
 contentShown (TopologyChange p s i) = topologyChange p (partOf s) i
 contentShown (LinkDown l) = linkDown (partOf (l .sender)) (roleNumber (l .role)) (l .interval) (blockedNumber (l .blocked))
 contentShown (LinkUp l) = linkUp (partOf (l .sender)) (roleNumber (l .role)) (l .interval) (blockedNumber (l .blocked))
+
+abbrev pub contentSender : Content → Part
+contentSender (Test p s r t n c) = partOf s
+contentSender (TopologyChange p s i) = partOf s
+contentSender (LinkDown l) = partOf (l .sender)
+contentSender (LinkUp l) = partOf (l .sender)
 
 abbrev pub contentKind : Content → kind.Kind
 contentKind (Test p s r t n c) = kinds.Test

@@ -3,8 +3,8 @@ ghost use mathlib.Core.Path.{_≡_};
 ghost use Prim.Native.Nat.{_≤_};
 ghost use lib.Dec.{leb};
 ghost use Rattle.layout.specs.Elements.{inValues, isPriority};
-ghost use Rattle.element.specs.Shown.{Passes, elementShown};
-ghost use Rattle.frame.specs.Shown.{roleNumber, stateNumber, blockedNumber, contentShown, contentKind, SameLink};
+ghost use Rattle.element.specs.Shown.{Passes, partOf, elementShown};
+ghost use Rattle.frame.specs.Shown.{roleNumber, stateNumber, blockedNumber, contentShown, contentSender, contentKind, SameLink};
 ghost use mathlib.Core.Bool.{_&&_};
 use element::Element;
 use element::LinkContent;
@@ -13,8 +13,8 @@ use kind::Kind;
 
 #[derive(Clone, Copy, Debug)]
 pub enum PortRole {
-    Primary = 0,
-    Secondary = 1,
+    Primary,
+    Secondary,
 }
 
 impl PortRole {
@@ -31,14 +31,17 @@ impl PortRole {
     pub fn number(self) -> u16
         ensures { λ r. ⌜ r ≡ roleNumber self ⌝ }
     {
-        self as u16
+        match self {
+            PortRole::Primary => 0,
+            PortRole::Secondary => 1,
+        }
     }
 }
 
 #[derive(Clone, Copy, Debug)]
 pub enum RingState {
-    Open = 0,
-    Closed = 1,
+    Open,
+    Closed,
 }
 
 impl RingState {
@@ -55,7 +58,10 @@ impl RingState {
     pub fn number(self) -> u16
         ensures { λ r. ⌜ r ≡ stateNumber self ⌝ }
     {
-        self as u16
+        match self {
+            RingState::Open => 0,
+            RingState::Closed => 1,
+        }
     }
 }
 
@@ -130,6 +136,18 @@ impl<'a> Content<'a> {
             Element::LinkUp(link) => Some(Content::LinkUp(Link::of(link)?)),
             Element::Common { .. } => None,
             Element::End => None,
+        }
+    }
+
+    // The node that the frame is from.
+    pub fn sender(&self) -> Part<'a>
+        ensures { λ r. ⌜ partOf r ≡ contentSender (now (self .entry)) ⌝ }
+    {
+        match self {
+            Content::Test { sender, .. } => *sender,
+            Content::TopologyChange { sender, .. } => *sender,
+            Content::LinkDown(link) => link.sender,
+            Content::LinkUp(link) => link.sender,
         }
     }
 

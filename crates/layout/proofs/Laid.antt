@@ -105,7 +105,6 @@ passes xs true n next f = f refl
 passes xs false n next f = tt
 
 pub accepted-laid-out : Accepted-laid-out
-unfolding isSized
 accepted-laid-out xs a =
     let h = headOf xs in
     let e = elementAt xs 16 in

@@ -11,7 +11,7 @@ use Rattle.layout.specs.Fields.{Part, word16, part}
 use Rattle.layout.specs.Elements.{Element, stands, elementAt, sizeOf, kindOf, spanAt, addressAt, inValues}
 
 -- a frame has 50 to 60 octets
-unfoldable pub isSized : List ℕ → Bool
+abbrev pub isSized : List ℕ → Bool
 isSized xs = leb 50 (length xs) && leb (length xs) 60
 
 -- the head of a frame: it tells where the version begins

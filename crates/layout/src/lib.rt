@@ -1,9 +1,22 @@
-// What a frame is, octet by octet: the definitions stand in specs/, and the contracts here are their theorems.
-ghost use Rattle.layout.specs.Layout.{Accepted-laid-out};
-ghost use Rattle.layout.specs.Worked.{Worked-cases};
+// What a frame is, octet by octet: the definitions stand in specs/, and the worked cases are proved here.
+ghost use mathlib.Core.Path.{_≡_};
+ghost use Rattle.layout.specs.Worked.{change, Worked-cases};
 
-// The worked cases of a TopologyChange frame come out as the definition of reading says.
-pub fn worked_cases()
-    ensures { λ _. ⌜ Worked-cases ⌝ }
+// The frame of the worked cases: node 0 of a ring announces a topology change in 30 ms.
+pub fn worked_frame() -> [u8; 50]
+    ensures octets { λ r. ⌜ r ≡ change 2 0 ⌝ }
+    ensures cases { λ _. ⌜ Worked-cases ⌝ }
 {
+    [
+        0x01, 0x15, 0x4E, 0x00, 0x00, 0x02, // destination
+        0x02, 0x00, 0x00, 0x00, 0x00, 0x00, // source
+        0x88, 0xE3, 0x00, 0x01, // type and version
+        0x03, 0x0A, 0x80, 0x00, // TopologyChange, priority
+        0x02, 0x00, 0x00, 0x00, 0x00, 0x00, // sender
+        0x00, 0x1E, // interval
+        0x01, 0x12, 0x00, 0x00, // Common, sequence
+        0xFF, 0xFF, 0xFF, 0xFF, 0xFF, 0xFF, 0xFF, 0xFF, // domain
+        0xFF, 0xFF, 0xFF, 0xFF, 0xFF, 0xFF, 0xFF, 0xFF,
+        0x00, 0x00, // End
+    ]
 }

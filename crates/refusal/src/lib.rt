@@ -1,5 +1,6 @@
 // Every refusal of the product: its number and a sentence that a customer can read.
 ghost use mathlib.Core.Path.{_≡_};
+ghost use Prim.Native.Nat.{_≤_};
 ghost use Rattle.refusal.specs.Refusals.{numberOf, sentenceOf};
 ghost use Rattle.std.specs.declared.option.Option.the-variants.{Some};
 use std::fmt;
@@ -36,7 +37,8 @@ pub enum Refusal {
 impl Refusal {
     // The number by which manuals, logs and the firmware name the refusal.
     pub fn number(self) -> u8
-        ensures { λ r. ⌜ r ≡ numberOf self ⌝ }
+        ensures value { λ r. ⌜ r ≡ numberOf self ⌝ }
+        ensures bound { λ r. ⌜ r ≤ 25 ⌝ }
     {
         self as u8
     }
