@@ -23,13 +23,13 @@ too-long xs h = grind (arith, tells)
 
 pub kept : (xs : List ℕ) → reading (take 61 xs) ≡ reading xs
 kept xs = elim (cases-lt 60 (length xs)) [
-    inl h ↦ (
+  | inl h ↦ (
       let l : 61 ≤ length xs = omega arith in
       let n = length-take-le 61 xs l in
       too-long (take 61 xs) (omega arith) ∙ sym (too-long xs h)
-    )
+      )
   | inr h ↦ ap reading (take-all 61 xs (omega arith))
-  ]
+]
 
 -- the verdict on what a line holds
 abbrev pub contentVerdict : Content → Verdict

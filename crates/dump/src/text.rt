@@ -52,11 +52,19 @@ fn content<W: fmt::Write>(f: &mut fmt::Formatter<W>, content: Content) -> fmt::R
         } => {
             let role = role.number();
             let state = state.number();
-            write!(f, " priority={priority} sender={sender} role={role} state={state} transitions={transitions} stamp={stamp}")
+            write!(
+                f,
+                " priority={priority} sender={sender} role={role} state={state} transitions={transitions} stamp={stamp}"
+            )
         }
         Content::TopologyChange {
-            priority, interval, ..
-        } => write!(f, " priority={priority} sender={sender} interval={interval}"),
+            priority,
+            interval,
+            ..
+        } => write!(
+            f,
+            " priority={priority} sender={sender} interval={interval}"
+        ),
         Content::LinkDown(link) => link_text(f, link),
         Content::LinkUp(link) => link_text(f, link),
     }
@@ -67,5 +75,8 @@ fn link_text<W: fmt::Write>(f: &mut fmt::Formatter<W>, link: Link) -> fmt::Resul
     let role = link.role.number();
     let interval = link.interval;
     let blocked = if link.blocked { 1 } else { 0 };
-    write!(f, " sender={sender} role={role} interval={interval} blocked={blocked}")
+    write!(
+        f,
+        " sender={sender} role={role} interval={interval} blocked={blocked}"
+    )
 }

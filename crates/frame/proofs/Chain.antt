@@ -31,9 +31,9 @@ pub at-common : {xs : List ℕ} {h : Head} {first : Element} → Passed xs h fir
 at-common {xs} {h} {first} p =
     let sized : reading xs ≡ readHead xs (headOf xs) = rw (p .sized) refl in
     let head : readHead xs h ≡ readFirst xs h (elementAt xs (h .versionAt + 2)) =
-        rw (p .destination, eq-eqb (h .etherType) 0x88E3 (p .etherType), eq-eqb (h .version) 1 (p .version)) refl in
+    rw (p .destination, eq-eqb (h .etherType) 0x88E3 (p .etherType), eq-eqb (h .version) 1 (p .version)) refl in
     let element : readFirst xs h first ≡ readEnd xs h first (h .versionAt + 2 + sizeOf first) =
-        rw (p .kind, p .total, p .address, p .values) refl in
+    rw (p .kind, p .total, p .address, p .values) refl in
     sized ∙ ap (readHead xs) (sym (p .head)) ∙ head ∙ ap (readFirst xs h) (sym (p .element)) ∙ element
 
 -- what is read as the definition says is laid out as its law says

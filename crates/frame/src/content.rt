@@ -118,19 +118,41 @@ impl<'a> Content<'a> {
         ensures { λ r. ⌜ Passes r (inValues (elementShown (element .entry))) (λ c. contentShown c ≡ elementShown (element .entry)) ⌝ }
     {
         match element {
-            Element::Test { priority, sender, role, state, transitions, stamp } => {
+            Element::Test {
+                priority,
+                sender,
+                role,
+                state,
+                transitions,
+                stamp,
+            } => {
                 if !is_priority(priority) {
                     return None;
                 }
                 let role = PortRole::of(role)?;
                 let state = RingState::of(state)?;
-                Some(Content::Test { priority, sender, role, state, transitions, stamp })
+                Some(Content::Test {
+                    priority,
+                    sender,
+                    role,
+                    state,
+                    transitions,
+                    stamp,
+                })
             }
-            Element::TopologyChange { priority, sender, interval } => {
+            Element::TopologyChange {
+                priority,
+                sender,
+                interval,
+            } => {
                 if !is_priority(priority) {
                     return None;
                 }
-                Some(Content::TopologyChange { priority, sender, interval })
+                Some(Content::TopologyChange {
+                    priority,
+                    sender,
+                    interval,
+                })
             }
             Element::LinkDown(link) => Some(Content::LinkDown(Link::of(link)?)),
             Element::LinkUp(link) => Some(Content::LinkUp(Link::of(link)?)),

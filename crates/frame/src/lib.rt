@@ -11,6 +11,10 @@ ghost use Rattle.layout.specs.Reading.{reading, allZero};
 ghost use Rattle.layout.specs.Layout.{LaidOut};
 ghost use Rattle.element.specs.Shown.{Passes, elementShown};
 ghost use Rattle.frame.specs.Shown.{outcome, FirstOf};
+pub use content::Content;
+pub use content::Link;
+pub use content::PortRole;
+pub use content::RingState;
 use element::Element;
 use element::Elements;
 use element::Head;
@@ -18,11 +22,6 @@ use element::Part;
 use kind::Destination;
 use kind::Kind;
 use refusal::Refusal;
-
-pub use content::Content;
-pub use content::Link;
-pub use content::PortRole;
-pub use content::RingState;
 
 #[derive(Clone, Copy)]
 pub struct Frame<'a> {

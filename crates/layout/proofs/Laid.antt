@@ -94,10 +94,11 @@ whole xs e c a l to t v k first at common-stood end-stood z =
     let q : c + 20 ≡ 0 + (16 + sizeOf e + 20) = omega arith in
     let all = join (join (join head first) (moved (0 + (16 + sizeOf e)) (common-laid xs c a common-stood) p)) (moved (0 + (16 + sizeOf e + 20)) (end-stood .head) q) in
     let n : 16 + sizeOf e + 20 + 2 ≡ 14 + spanAt (kindOf e) = omega arith in
-    let front : take (14 + spanAt (kindOf e)) xs ≡ frameOf (part xs 6 6) e (word16 xs (c + 2)) (part xs (c + 4) 16) = ap (λ m. take m xs) (sym n) ∙ all .is in
-    (length (drop (14 + spanAt (kindOf e)) xs),
-     sym (take-append-drop (14 + spanAt (kindOf e)) xs) ∙ ap (λ y. y ++ drop (14 + spanAt (kindOf e)) xs) front
-     ∙ ap (λ y. frameOf (part xs 6 6) e (word16 xs (c + 2)) (part xs (c + 4) 16) ++ y) (zeros-are (drop (14 + spanAt (kindOf e)) xs) z))
+    let front : take (14 + spanAt (kindOf e)) xs ≡ frameOf (part xs 6 6) e (word16 xs (c + 2)) (part xs (c + 4) 16) = ap (λ m. take m xs) (sym n) ∙ all .is in (
+      length (drop (14 + spanAt (kindOf e)) xs),
+      sym (take-append-drop (14 + spanAt (kindOf e)) xs) ∙ ap (λ y. y ++ drop (14 + spanAt (kindOf e)) xs) front
+          ∙ ap (λ y. frameOf (part xs 6 6) e (word16 xs (c + 2)) (part xs (c + 4) 16) ++ y) (zeros-are (drop (14 + spanAt (kindOf e)) xs) z),
+    )
 
 -- a check that does not hold is a refusal, of which nothing is said
 passes : (xs : List ℕ) (b : Bool) (n : ℕ) (next : Reading) → (b ≡ true → LaidOut xs next) → LaidOut xs (check b n next)
@@ -125,4 +126,4 @@ accepted-laid-out xs a =
     passes xs (stands xs (c + 20) 0 0) 10 zero (λ end-stands.
     passes xs (allZero (drop (14 + spanAt (kindOf e)) xs)) 11 frame (λ z.
     whole xs e c a (leb-true 50 (length xs) (and-parts (leb 50 (length xs)) (leb (length xs) 60) sized .0)) to
-      (eqb-true (word16 xs 12) 0x88E3 t) (eqb-true (word16 xs 14) 1 v) k (element-laid xs 16 a) refl (stood xs c 1 18 common-stands) (stood xs (c + 20) 0 0 end-stands) z)))))))))))
+    (eqb-true (word16 xs 12) 0x88E3 t) (eqb-true (word16 xs 14) 1 v) k (element-laid xs 16 a) refl (stood xs c 1 18 common-stands) (stood xs (c + 20) 0 0 end-stands) z)))))))))))

@@ -1,0 +1,9 @@
+pub mod Beside
+pub mod Buckets
+pub mod Counts
+pub mod Entries
+pub mod Lasts
+pub mod Mapped
+pub mod Records
+pub mod Tests
+pub mod Trails
