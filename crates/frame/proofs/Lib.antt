@@ -1,2 +1,2 @@
 pub mod Tail
-pub mod Chain
+pub mod Law

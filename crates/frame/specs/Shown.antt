@@ -36,7 +36,7 @@ abbrev pub blockedNumber : Bool → ℕ
 blockedNumber b = cond b 1 0
 
 -- the first element that a content was read from
-unfoldable pub contentShown : Content → Element
+abbrev pub contentShown : Content → Element
 contentShown (Test p s r t n c) = test p (partOf s) (roleNumber r) (stateNumber t) n c
 contentShown (TopologyChange p s i) = topologyChange p (partOf s) i
 contentShown (LinkDown l) = linkDown (partOf (l .sender)) (roleNumber (l .role)) (l .interval) (blockedNumber (l .blocked))

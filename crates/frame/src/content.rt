@@ -125,35 +125,23 @@ impl<'a> Content<'a> {
                 state,
                 transitions,
                 stamp,
-            } => {
-                if !is_priority(priority) {
-                    return None;
-                }
-                let role = PortRole::of(role)?;
-                let state = RingState::of(state)?;
-                Some(Content::Test {
-                    priority,
-                    sender,
-                    role,
-                    state,
-                    transitions,
-                    stamp,
-                })
-            }
+            } => Some(Content::Test {
+                priority: checked_priority(priority)?,
+                sender,
+                role: PortRole::of(role)?,
+                state: RingState::of(state)?,
+                transitions,
+                stamp,
+            }),
             Element::TopologyChange {
                 priority,
                 sender,
                 interval,
-            } => {
-                if !is_priority(priority) {
-                    return None;
-                }
-                Some(Content::TopologyChange {
-                    priority,
-                    sender,
-                    interval,
-                })
-            }
+            } => Some(Content::TopologyChange {
+                priority: checked_priority(priority)?,
+                sender,
+                interval,
+            }),
             Element::LinkDown(link) => Some(Content::LinkDown(Link::of(link)?)),
             Element::LinkUp(link) => Some(Content::LinkUp(Link::of(link)?)),
             Element::Common { .. } => None,
@@ -185,8 +173,12 @@ impl<'a> Content<'a> {
     }
 }
 
-fn is_priority(number: u16) -> bool
-    ensures { λ r. ⌜ r ≡ isPriority number ⌝ }
+fn checked_priority(number: u16) -> Option<u16>
+    ensures { λ r. ⌜ Passes r (isPriority number) (λ priority. priority ≡ number) ⌝ }
 {
-    number % 0x1000 == 0
+    if number % 0x1000 == 0 {
+        Some(number)
+    } else {
+        None
+    }
 }

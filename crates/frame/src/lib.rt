@@ -5,11 +5,10 @@ ghost use mathlib.Core.Path.{_≡_};
 ghost use Prim.Native.Nat.{_+_, _≤_};
 ghost use lib.ListN.{length, drop};
 ghost use Rattle.std.specs.Options.{isSome};
-ghost use Rattle.kind.specs.Kinds.{spanOf, goesTo, addressOf};
-ghost use Rattle.layout.specs.Elements.{kindOf, spanAt, addressAt};
-ghost use Rattle.layout.specs.Reading.{reading, allZero};
+ghost use Rattle.layout.specs.Elements.{elementAt, kindOf};
+ghost use Rattle.layout.specs.Reading.{reading, readFirst, allZero};
 ghost use Rattle.layout.specs.Layout.{LaidOut};
-ghost use Rattle.element.specs.Shown.{Passes, elementShown};
+ghost use Rattle.element.specs.Shown.{Passes, headShown, elementShown};
 ghost use Rattle.frame.specs.Shown.{outcome, FirstOf};
 pub use content::Content;
 pub use content::Link;
@@ -47,10 +46,16 @@ pub fn read<'a>(octets: &'a [u8]) -> Result<Frame<'a>, Refusal>
     let 1 = head.version else {
         return Err(Refusal::Version);
     };
-    let mut elements = Elements {
-        octets,
-        at: head.version_at + 2,
-    };
+    read_elements(octets, head)
+}
+
+// Reads on from the version, which is known to be 1.
+fn read_elements<'a>(octets: &'a [u8], head: Head<'a>) -> Result<Frame<'a>, Refusal>
+    requires { ⌜ head .«version_at» ≤ 60 ⌝ }
+    ensures { λ r. ⌜ outcome r ≡ readFirst (now (octets .entry)) (headShown (head .entry)) (elementAt (now (octets .entry)) (head .entry .«version_at» + 2)) ⌝ }
+{
+    let at = head.version_at + 2;
+    let mut elements = Elements { octets, at };
     let Some(first) = elements.next_element() else {
         return Err(Refusal::FirstElement);
     };
@@ -76,8 +81,9 @@ pub fn read<'a>(octets: &'a [u8]) -> Result<Frame<'a>, Refusal>
     let true = zero_from(octets, total) else {
         return Err(Refusal::Padding);
     };
+    let source = head.source;
     Ok(Frame {
-        source: head.source,
+        source,
         content,
         sequence,
         domain,

@@ -90,7 +90,7 @@ abbrev pub isPriority : ℕ → Bool
 isPriority p = eqb (p % 0x1000) 0
 
 -- whether it is a first element whose fields have their values: port role, ring state and blocked are 0 or 1
-unfoldable pub inValues : Element → Bool
+abbrev pub inValues : Element → Bool
 inValues (test p s r t n c) = isPriority p && (leb r 1 && leb t 1)
 inValues (topologyChange p s i) = isPriority p
 inValues (linkDown s r i b) = leb r 1 && leb b 1
