@@ -45,5 +45,5 @@ addressOf McTest = 0x01 ∷ 0x15 ∷ 0x4E ∷ 0x00 ∷ 0x00 ∷ 0x01 ∷ []
 addressOf McControl = 0x01 ∷ 0x15 ∷ 0x4E ∷ 0x00 ∷ 0x00 ∷ 0x02 ∷ []
 
 -- the destination that an address is, if it is one of the two
-unfoldable pub destinationOf : List ℕ → Option Destination
+abbrev pub destinationOf : List ℕ → Option Destination
 destinationOf a = cond (sameBytes a (addressOf McTest)) (Some McTest) (cond (sameBytes a (addressOf McControl)) (Some McControl) None)
