@@ -2,12 +2,11 @@
 use Prim.Native.Nat.{ℕ, suc, _+_, _<_, _≤_}
 use lib.Dec.{eqb}
 use lib.ListN.{getD, length, length-map}
-use mathlib.Core.Bool.{Bool, true, false, not, _&&_}
-use mathlib.Core.List.{List, [], _∷_, _++_, map}
+use mathlib.Core.Bool.{Bool, true, false}
+use mathlib.Core.List.{List, [], map}
 use mathlib.Core.Path.{_≡_, refl, sym, ap, _∙_}
 use native.Mathlib.Omega.{arith}
 use Rattle.clash.specs.Clashes.{frameAt, nobody, count, sameSender, sameNumber, otherKind}
-use Rattle.clash.specs.Notes.{Recorded, seenIn}
 use Rattle.clash.specs.Places.{lastBelow, spot}
 use Rattle.clash.specs.Sightings.{Seen, shown}
 use Rattle.clash.specs.Views.{framesOf}
@@ -17,8 +16,8 @@ use Rattle.clash.proofs.Counts.{count-same, count-le, count-last}
 use Rattle.clash.proofs.Lasts.{last-same, last-found, last-skip}
 use Rattle.clash.proofs.Mapped.{read-map}
 use Rattle.clash.proofs.Tests.{sender-same, other-same}
-use Rattle.std.proofs.shelf.Lists.{getD-map, getD-append-left, getD-push, length-push}
-use Rattle.std.specs.Of.Vec.{vec-items, vec-len}
+use Rattle.std.proofs.shelf.Lists.{getD-map}
+use Rattle.std.specs.Of.Vec.{vec-items}
 use Rattle.std.specs.shelf.Text.{sameBytes}
 
 pub record Beside (es : List Seen) (i : ℕ) (r : Noted) : Type 0 where

@@ -6,7 +6,6 @@ use mathlib.Core.Bool.{Bool, true, false}
 use mathlib.Core.List.{List, [], _∷_, _++_}
 use mathlib.Core.Logic.{inl, inr}
 use mathlib.Core.Path.{_≡_, refl, sym, ap, subst, _∙_}
-use native.Mathlib.Numerals.{add-one}
 use native.Mathlib.Omega.{arith}
 use Rattle.clash.specs.Chains.{bucketAt, Linked, Headed}
 use Rattle.clash.specs.Keys.{bucketOf}
@@ -48,7 +47,6 @@ pub walk-step : (ks : List (List ℕ)) (bs : List (Option ℕ)) (k : List ℕ) (
 walk-step ks bs k i o h w d g =
     let r = w .within i refl in
     let l : i ≤ length ks = omega (arith, r .0) in
-    let q : ℕ → Bool = λ j. sameBytes k (getD ks j []) in
     onward (bucketAt ks) (bucketOf k) (λ j. sameBytes k (getD ks j [])) (length ks) i (spot o) (in-bucket ks k) l (w .same ∙ last-skip (λ j. sameBytes k (getD ks j [])) i d)
     (ap spot g ∙ h i (r .0) ∙ ap (λ (x : ℕ). lastBelow (λ j. eqb (bucketAt ks j) x) i) (r .1))
 

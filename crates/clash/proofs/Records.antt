@@ -1,10 +1,10 @@
 -- One more frame leaves what stands beside the others, and the indexes' keys, right.
-use Prim.Native.Nat.{ℕ, _<_, _≤_}
-use lib.ListN.{getD, length, length-map}
+use Prim.Native.Nat.{ℕ, _<_}
+use lib.ListN.{length, length-map}
 use mathlib.Core.Bool.{Bool}
 use mathlib.Core.List.{List, [], _∷_, _++_, map}
 use mathlib.Core.Logic.{inl, inr}
-use mathlib.Core.Path.{_≡_, refl, sym, ap, ap₂, subst, subst₂, _∙_}
+use mathlib.Core.Path.{_≡_, sym, ap, ap₂, subst₂, _∙_}
 use native.Mathlib.Omega.{arith}
 use Rattle.clash.specs.Clashes.{frameAt, nobody}
 use Rattle.clash.specs.Notes.{Recorded, seenIn}

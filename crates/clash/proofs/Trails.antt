@@ -2,7 +2,7 @@
 use Prim.Native.Nat.{ℕ, zero, suc, _+_, _-_, _<_, _≤_}
 use lib.Dec.{eqb, ltb}
 use lib.ListN.{getD, length}
-use mathlib.Core.Bool.{Bool, true, false, not}
+use mathlib.Core.Bool.{true, false, not}
 use mathlib.Core.List.{List, [], _∷_, _++_, append-assoc}
 use mathlib.Core.Logic.{inl, inr}
 use mathlib.Core.Path.{_≡_, refl, sym, ap, ap₂, subst, _∙_}
@@ -19,7 +19,7 @@ use Rattle.clash.proofs.Lasts.{last-same, last-le, last-found, last-here, last
 use Rattle.clash.proofs.Tests.{sender-same, number-same, other-within}
 use Rattle.std.proofs.shelf.Lists.{append-nil}
 use Rattle.std.proofs.shelf.Tests.{and-parts, and-from, and-left, and-right, cases-bool, cond-true, cond-false, lt-ltb, le-ltb, ltb-true, ltb-false}
-use Rattle.std.specs.Of.Vec.{vec-items, vec-len}
+use Rattle.std.specs.Of.Vec.{vec-items}
 use Rattle.std.specs.declared.option.Option.{Option}
 use Rattle.std.specs.declared.option.Option.the-variants.{Some, None}
 
@@ -62,10 +62,10 @@ pub record Trail (es : List Seen) (j s : ℕ) (out : List ℕ) : Type 0 where
   pub within : (i : ℕ) → s ≡ suc i → (i < j) × (otherKind (frameAt es j) (frameAt es i) ≡ true)
   pub rest : out ++ partners es j s ≡ partners es j j
 
-pub trail-start : (h : History) {j n : ℕ} {q : Noted} {out : List ℕ} → n ≡ vec-len (h .noted) → j < n → q ≡ getD (vec-items (h .noted)) j q → out ≡ [] → Trail (framesOf h) j (spot (q .other)) out
-trail-start h {j} {n} {q} {out} m l x e =
+pub trail-start : (h : History) {j : ℕ} {q : Noted} {out : List ℕ} → true ≡ ltb j (length (framesOf h)) → q ≡ getD (vec-items (h .noted)) j q → out ≡ [] → Trail (framesOf h) j (spot (q .other)) out
+trail-start h {j} {q} {out} l x e =
     let es = framesOf h in
-    let k : j < length (framesOf h) = omega (arith, h .long) in
+    let k : j < length (framesOf h) = ltb-true j (length (framesOf h)) (sym l) in
     let d = beside h j q k x in
     record {
       within = λ i y. last-found (λ k. otherKind (frameAt es j) (frameAt es k)) j i (sym (d .other) ∙ y);
@@ -78,9 +78,9 @@ pub record Turn (es : List Seen) (i j : ℕ) (r q : Noted) (out : List ℕ) : Ty
   pub here : Beside es i r
   pub top : Beside es j q
 
-pub turn : (h : History) {i j n : ℕ} {r q : Noted} {o : Option ℕ} {out : List ℕ} → n ≡ vec-len (h .noted) → j < n → q ≡ getD (vec-items (h .noted)) j q → o ≡ Some i → Trail (framesOf h) j (spot o) out → r ≡ getD (vec-items (h .noted)) i r → Turn (framesOf h) i j r q out
-turn h {i} {j} {n} {r} {q} {o} {out} m l x e t y =
-    let k : j < length (framesOf h) = omega (arith, h .long) in
+pub turn : (h : History) {i j : ℕ} {r q : Noted} {o : Option ℕ} {out : List ℕ} → true ≡ ltb j (length (framesOf h)) → q ≡ getD (vec-items (h .noted)) j q → o ≡ Some i → Trail (framesOf h) j (spot o) out → r ≡ getD (vec-items (h .noted)) i r → Turn (framesOf h) i j r q out
+turn h {i} {j} {r} {q} {o} {out} l x e t y =
+    let k : j < length (framesOf h) = ltb-true j (length (framesOf h)) (sym l) in
     let a = subst (λ (z : Option ℕ). Trail (framesOf h) j (spot z) out) e t in
     let b : i < length (framesOf h) = omega (arith, a .within i refl .0) in
     record { trail = a; here = beside h i r b y; top = beside h j q k x }
@@ -94,9 +94,9 @@ pub ranks-ordered : {es : List Seen} {i j : ℕ} {r q : Noted} {out : List ℕ} 
 ranks-ordered t = omega (arith, rank-apart t)
 
 -- nothing clashes from the first frame on that lies too far back
-pub trail-past : {es : List Seen} {i j : ℕ} {r q : Noted} {out : List ℕ} → Turn es i j r q out → ltb 32768 (q .rank - r .rank) ≡ true → out ≡ partners es j j
+pub trail-past : {es : List Seen} {i j : ℕ} {r q : Noted} {out : List ℕ} → Turn es i j r q out → true ≡ ltb 32768 (q .rank - r .rank) → out ≡ partners es j j
 trail-past {es} {i} {j} {r} {q} {out} t p =
-    let far : 32768 ≤ between es i j = omega (arith, rank-apart t, ltb-true 32768 (q .rank - r .rank) p) in
+    let far : 32768 ≤ between es i j = omega (arith, rank-apart t, ltb-true 32768 (q .rank - r .rank) (sym p)) in
     let none = partners-none es j (suc i) (λ k l. and-right (otherKind (frameAt es j) (frameAt es k)) (ltb (between es k j) 32768)
     (le-ltb (between es k j) 32768 (omega (arith, far, after-more (λ x. sameSender (frameAt es j) (frameAt es x)) i k j (omega arith))))) in
     sym (append-nil out) ∙ ap (λ (xs : List ℕ). out ++ xs) (sym none) ∙ t .trail .rest
@@ -125,11 +125,11 @@ onto {es} {i} {j} t o h =
 pub trail-falls : {es : List Seen} {i j : ℕ} {r q : Noted} {out : List ℕ} → Turn es i j r q out → (o : ℕ) → Onto es r q o → o < suc i
 trail-falls {es} {i} {j} t o h = omega (arith, onto t o h, last-le (λ k. otherKind (frameAt es j) (frameAt es k)) i)
 
-pub trail-step : {es : List Seen} {i j : ℕ} {r q : Noted} {out : List ℕ} → Turn es i j r q out → (o : ℕ) → Onto es r q o → ltb 32768 (q .rank - r .rank) ≡ false → (out′ : List ℕ) → out′ ≡ out ++ r .seen .line ∷ [] → Trail es j o out′
+pub trail-step : {es : List Seen} {i j : ℕ} {r q : Noted} {out : List ℕ} → Turn es i j r q out → (o : ℕ) → Onto es r q o → false ≡ ltb 32768 (q .rank - r .rank) → (out′ : List ℕ) → out′ ≡ out ++ r .seen .line ∷ [] → Trail es j o out′
 trail-step {es} {i} {j} {r} {q} {out} t o h p out′ e =
     let w = t .trail .within i refl in
     let next = onto t o h in
-    let near : between es i j < 32768 = omega (arith, rank-apart t, ltb-false 32768 (q .rank - r .rank) p) in
+    let near : between es i j < 32768 = omega (arith, rank-apart t, ltb-false 32768 (q .rank - r .rank) (sym p)) in
     let here = partners-here es j i (and-from (otherKind (frameAt es j) (frameAt es i)) (ltb (between es i j) 32768) (w .1) (lt-ltb (between es i j) 32768 near)) in
     let line = ap (λ (x : Seen). x .line) (t .here .frame) in
     let back = ap (partners es j) next ∙ sym (partners-within es j i) in
@@ -140,14 +140,8 @@ trail-step {es} {i} {j} {r} {q} {out} t o h p out′ e =
     }
 
 -- what the search puts together is the list of all clashes of frame j
-pub lines-all : (h : History) {j n : ℕ} {out : List ℕ} → n ≡ vec-len (h .noted) → j < n → out ≡ partners (framesOf h) j j → out ≡ clashLines (framesOf h) j
-lines-all h {j} m l e =
-    let es = framesOf h in
-    let k : j < length (framesOf h) = omega (arith, h .long) in
-    e ∙ sym (cond-true (ltb j (length es)) (partners es j j) [] (lt-ltb j (length es) k))
+pub lines-all : (h : History) (j : ℕ) {out : List ℕ} → true ≡ ltb j (length (framesOf h)) → out ≡ partners (framesOf h) j j → out ≡ clashLines (framesOf h) j
+lines-all h j l e = e ∙ sym (cond-true (ltb j (length (framesOf h))) (partners (framesOf h) j j) [] (sym l))
 
-pub lines-none : (h : History) {j n : ℕ} {out : List ℕ} → n ≡ vec-len (h .noted) → n ≤ j → out ≡ [] → out ≡ clashLines (framesOf h) j
-lines-none h {j} m l e =
-    let es = framesOf h in
-    let k : length (framesOf h) ≤ j = omega (arith, h .long) in
-    e ∙ sym (cond-false (ltb j (length es)) (partners es j j) [] (le-ltb j (length es) k))
+pub lines-none : (h : History) (j : ℕ) {out : List ℕ} → false ≡ ltb j (length (framesOf h)) → out ≡ [] → out ≡ clashLines (framesOf h) j
+lines-none h j l e = e ∙ sym (cond-false (ltb j (length (framesOf h))) (partners (framesOf h) j j) [] (sym l))

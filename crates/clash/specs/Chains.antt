@@ -1,3 +1,4 @@
+-- How the entries of an index hang together.
 use Prim.Native.Nat.{ℕ, _<_}
 use lib.Dec.{eqb}
 use lib.ListN.{getD, length}

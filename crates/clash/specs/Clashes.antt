@@ -1,3 +1,4 @@
+-- Which frames clash: one sender used one sequence number on two kinds of frame, not too long ago.
 use Prim.Native.Nat.{ℕ, zero, suc, _+_}
 use lib.Dec.{eqb, ltb}
 use lib.ListN.{getD, length}
@@ -14,6 +15,7 @@ nobody = record { line = 0; sender = []; kind = 0; sequence = 0 }
 abbrev pub frameAt : List Seen → ℕ → Seen
 frameAt es i = getD es i nobody
 
+-- one sender
 abbrev pub sameSender : Seen → Seen → Bool
 sameSender a b = sameBytes (a .sender) (b .sender)
 
@@ -30,11 +32,11 @@ abbrev pub count : (ℕ → Bool) → ℕ → ℕ
 count p zero = 0
 count p (suc m) = cond (p m) 1 0 + count p m
 
--- how many of the frames between places i and j have the sender of frame j
+-- how many of the frames strictly between places i and j have the sender of frame j
 abbrev pub between : List Seen → ℕ → ℕ → ℕ
 between es i j = count (λ k. ltb i k && sameSender (frameAt es j) (frameAt es k)) j
 
--- frame j clashes with the earlier frame i
+-- frame j clashes with the earlier frame i: past 32,767 frames of the sender in between, its numbers may have come round
 abbrev pub clash : List Seen → ℕ → ℕ → Bool
 clash es i j = otherKind (frameAt es j) (frameAt es i) && ltb (between es i j) 32768
 

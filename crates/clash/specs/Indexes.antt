@@ -1,3 +1,4 @@
+-- What an index holds.
 use Prim.Native.Nat.{ℕ, _+_, _≤_}
 use mathlib.Core.List.{List}
 use Rattle.clash.specs.Chains.{keysIn}

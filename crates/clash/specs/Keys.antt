@@ -1,3 +1,4 @@
+-- The keys of the indexes, and their buckets.
 use Prim.Native.Nat.{ℕ, _+_, _*_, _/_, _%_, _^_}
 use lib.ListN.{getD}
 use mathlib.Core.List.{List, _∷_}

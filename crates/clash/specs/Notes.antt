@@ -1,3 +1,4 @@
+-- What stands beside each frame of a history.
 use Prim.Native.Nat.{ℕ, _<_}
 use lib.ListN.{getD, length}
 use mathlib.Core.Bool.{Bool}
@@ -12,7 +13,7 @@ use Rattle.clash.specs.declared.noted.Noted.{Noted}
 abbrev pub seenIn : List Noted → List Seen
 seenIn ns = map (λ (n : Noted). shown (n .seen)) ns
 
--- what stands beside them
+-- what stands beside them: a count of frames, and two places of earlier frames
 abbrev pub ranksIn : List Noted → List ℕ
 ranksIn ns = map (λ (n : Noted). n .rank) ns
 

@@ -1,3 +1,4 @@
+-- The last place at which a test holds.
 use Prim.Native.Nat.{ℕ, zero, suc}
 use mathlib.Core.Bool.{Bool, cond}
 use Rattle.std.specs.declared.option.Option.{Option}

@@ -1,3 +1,4 @@
+-- The frames that the search for clashes is about.
 use Prim.Native.Nat.{ℕ}
 use mathlib.Core.List.{List}
 use Rattle.clash.specs.declared.sighting.Sighting.{Sighting}
@@ -10,6 +11,6 @@ pub record Seen : Type 0 where
   pub kind : ℕ
   pub sequence : ℕ
 
--- a frame of the code, so
+-- what the code holds of a frame
 abbrev pub shown : Sighting → Seen
 shown s = record { line = s .line; sender = s .sender; kind = typeOf (s .kind); sequence = s .sequence }

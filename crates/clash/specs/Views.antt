@@ -1,3 +1,4 @@
+-- What a history holds.
 use Prim.Native.Nat.{_+_, _≤_}
 use mathlib.Core.List.{List}
 use Rattle.clash.specs.Indexes.{Roomy}

@@ -14,13 +14,15 @@ pub struct Key {
 const SPREAD: u64 = 0x9E37_79B9_7F4A_7C15;
 
 impl Key {
-    pub fn is(&self, other: &Key) -> bool
+    // Whether the two keys are equal.
+    pub(crate) fn is(&self, other: &Key) -> bool
         ensures { λ r. ⌜ r ≡ sameBytes (keyOctets (now (self .entry))) (keyOctets (now (other .entry))) ⌝ }
     {
         self.sequence == other.sequence && self.sender == other.sender
     }
 
-    pub fn bucket(self) -> usize
+    // The high bits of the spread-out key.
+    pub(crate) fn bucket(self) -> usize
         ensures value { λ r. ⌜ r ≡ bucketOf (keyOctets self) ⌝ }
         ensures bound { λ r. ⌜ r < 262144 ⌝ }
     {

@@ -15,12 +15,12 @@ pub struct Noted {
     pub other: Option<usize>,
 }
 
-// Frames of one sender that lie as many of its frames apart no longer clash.
+// Frames of one sender clash only if their ranks differ by no more: fewer than 32,768 of its frames lie between them.
 const WINDOW: usize = 32768;
 
 impl Noted {
     // The rank of the sender's next frame.
-    pub fn next_rank(&self) -> usize
+    pub(crate) fn next_rank(&self) -> usize
         requires { ⌜ now self .rank + 1 < 2 ^ 64 ⌝ }
         ensures { λ r. ⌜ r ≡ now (self .entry) .rank + 1 ⌝ }
     {
@@ -28,7 +28,7 @@ impl Noted {
     }
 
     // Whether `earlier`, of the same sender, lies too far back to clash.
-    pub fn is_past(&self, earlier: &Noted) -> bool
+    pub(crate) fn is_past(&self, earlier: &Noted) -> bool
         requires { ⌜ now earlier .rank ≤ now self .rank ⌝ }
         ensures { λ r. ⌜ r ≡ ltb 32768 (now (self .entry) .rank - now (earlier .entry) .rank) ⌝ }
     {

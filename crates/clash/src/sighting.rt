@@ -18,6 +18,7 @@ pub struct Sighting {
 }
 
 impl Sighting {
+    // What all frames of this sender are found by.
     pub(crate) fn sender_key(self) -> Key
         ensures { λ r. ⌜ keyOctets r ≡ senderKey (shown self) ⌝ }
     {
@@ -28,6 +29,7 @@ impl Sighting {
         }
     }
 
+    // What all frames of this sender with this sequence number are found by.
     pub(crate) fn number_key(self) -> Key
         ensures { λ r. ⌜ keyOctets r ≡ numberKey (shown self) ⌝ }
     {

@@ -1,9 +1,5 @@
 // A dump in progress: the line that is being read, what was counted, and the accepted frames.
 use clash::History;
-use dump::FrameText;
-use dump::FrameTextDisplay;
-use dump::Octets;
-use dump::OctetsDisplay;
 use dump::Tally;
 use dump::Verdict;
 use dump::judge;
@@ -14,6 +10,8 @@ use refusal::RefusalDisplay;
 use std::alloc::Global;
 use std::error::AnyError;
 use std::io::Write;
+use text::frame_text;
+use text::octets_text;
 
 #[derive(Drop)]
 pub struct Dump {
@@ -73,7 +71,7 @@ impl Dump {
         if let Some(seen) = sighting(self.number, &frame) {
             self.history.note(seen)?;
         }
-        let text = FrameText(frame);
+        let text = frame_text(self.heap, &frame)?;
         writeln!(out, "0 {text}")?;
         Ok(())
     }
@@ -99,7 +97,7 @@ impl Dump {
             self.history.clashes(j, &mut earlier)?;
             if let Some(seen) = self.history.sighting(j) {
                 let line = seen.line;
-                let sender = Octets(&seen.sender);
+                let sender = octets_text(self.heap, &seen.sender)?;
                 let sequence = seen.sequence;
                 for first in earlier.iter() {
                     writeln!(

@@ -1,4 +1,5 @@
 // How frames are noted, and how their clashes are found.
+ghost use lib.Dec.{ltb};
 ghost use lib.ListN.{length};
 ghost use mathlib.Core.Bool.{true, cond};
 ghost use mathlib.Core.List.{[], _∷_, _++_};
@@ -22,6 +23,7 @@ use std::alloc::AllocError;
 use std::alloc::Global;
 
 impl History {
+    // A history with no frames.
     pub fn new(heap: Global) -> Result<History, AllocError>
         ensures { λ r. ⌜ made r (λ h. framesOf h ≡ []) ⌝ }
     {
@@ -34,16 +36,25 @@ impl History {
         })
     }
 
+    // How many frames there are.
     pub fn len(&self) -> usize
         ensures { λ r. ⌜ r ≡ length (framesOf (now (self .entry))) ⌝ }
     {
         self.noted.len()
     }
 
+    // Whether there is a frame at place `j`.
+    fn holds(&self, j: usize) -> bool
+        ensures { λ r. ⌜ r ≡ ltb j (length (framesOf (now (self .entry)))) ⌝ }
+    {
+        j < self.noted.len()
+    }
+
+    // The frame at place `j`.
     pub fn sighting(&self, j: usize) -> Option<Sighting>
         ensures { λ r. ⌜ mapped shown r ≡ nth (framesOf (now (self .entry))) j ⌝ }
     {
-        if j < self.noted.len() {
+        if self.holds(j) {
             Some(self.noted[j].seen)
         } else {
             None
@@ -115,6 +126,7 @@ impl History {
         self.noted.reserve(1)
     }
 
+    // Adds a frame; where memory runs out, nothing has changed.
     pub fn note(&mut self, s: Sighting) -> Result<(), AllocError>
         ensures { λ r. ⌜ framesOf (now (self .exit)) ≡ cond (isOk r) (framesOf (now (self .entry)) ++ shown s ∷ []) (framesOf (now (self .entry))) ⌝ }
     {
@@ -131,7 +143,7 @@ impl History {
         ensures { λ r. ⌜ made r (λ _. vec-items (now (lines .exit)) ≡ clashLines (framesOf (now (self .entry))) j) ⌝ }
     {
         lines.clear();
-        if j >= self.noted.len() {
+        if !self.holds(j) {
             return Ok(());
         }
         let frame = self.noted[j];

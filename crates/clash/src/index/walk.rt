@@ -16,7 +16,8 @@ use std::alloc::Global;
 const BUCKETS: usize = 262144;
 
 impl Index {
-    pub fn new(heap: Global) -> Result<Index, AllocError>
+    // An index with no keys.
+    pub(crate) fn new(heap: Global) -> Result<Index, AllocError>
         ensures { λ r. ⌜ made r (λ x. keys x ≡ []) ⌝ }
     {
         let heads = vec![in heap; None; BUCKETS]?;
@@ -27,7 +28,7 @@ impl Index {
     }
 
     // The latest place at which `key` was added.
-    pub fn latest(&self, key: Key) -> Option<usize>
+    pub(crate) fn latest(&self, key: Key) -> Option<usize>
         ensures { λ r. ⌜ spot r ≡ lastBelow (λ i. sameBytes (keyOctets key) (getD (keys (now (self .entry))) i [])) (length (keys (now (self .entry)))) ⌝ }
     {
         let mut at = self.heads[key.bucket()];
@@ -42,14 +43,15 @@ impl Index {
     }
 
     // Makes room for one more key.
-    pub fn reserve(&mut self) -> Result<(), AllocError>
+    pub(crate) fn reserve(&mut self) -> Result<(), AllocError>
         ensures same { λ _. ⌜ keys (now (self .exit)) ≡ keys (now (self .entry)) ⌝ }
         ensures room { λ r. ⌜ made r (λ _. Roomy (now (self .exit))) ⌝ }
     {
         self.entries.reserve(1)
     }
 
-    pub fn add(&mut self, key: Key)
+    // Adds a key at the next place.
+    pub(crate) fn add(&mut self, key: Key)
         requires { ⌜ Roomy (now self) ⌝ }
         ensures { λ _. ⌜ keys (now (self .exit)) ≡ keys (now (self .entry)) ++ keyOctets key ∷ [] ⌝ }
     {

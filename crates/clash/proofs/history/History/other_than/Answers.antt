@@ -1,6 +1,5 @@
-use Prim.Native.Nat.{ℕ}
 use lib.Dec.{eqb}
-use mathlib.Core.Path.{_≡_, ap, sym, _∙_}
+use mathlib.Core.Path.{ap, sym, _∙_}
 use native.Mathlib.Omega.{arith}
 use Rattle.clash.specs.Clashes.{frameAt, otherKind}
 use Rattle.clash.specs.Places.{lastBelow, spot}

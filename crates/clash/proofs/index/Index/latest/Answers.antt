@@ -1,8 +1,6 @@
-use Prim.Native.Nat.{ℕ, _<_}
-use lib.ListN.{getD, length}
-use mathlib.Core.Bool.{true, false}
-use mathlib.Core.List.{List, []}
-use mathlib.Core.Path.{_≡_, refl, sym, ap, _∙_}
+use Prim.Native.Nat.{_<_}
+use lib.ListN.{length}
+use mathlib.Core.Path.{sym, ap, _∙_}
 use native.Mathlib.Omega.{arith}
 use Rattle.clash.specs.Chains.{keysIn, belowIn}
 use Rattle.clash.specs.Keys.{keyOctets}
