@@ -2,6 +2,7 @@
 use Prim.Native.Nat.{ℕ}
 use mathlib.Core.Bool.{Bool, cond}
 use mathlib.Core.Path.{_≡_}
+use Rattle.std.specs.declared.option.Option.the-variants.{Some}
 use Rattle.std.specs.declared.result.Result.{Result}
 use Rattle.std.specs.declared.result.Result.the-variants.{Ok, Err}
 use Rattle.refusal.specs.declared.Refusal.{Refusal}
@@ -54,9 +55,9 @@ contentKind (TopologyChange p s i) = kinds.TopologyChange
 contentKind (LinkDown l) = kinds.LinkDown
 contentKind (LinkUp l) = kinds.LinkUp
 
--- the kind of the frame that an element begins, and what the kind tells of it
+-- k is the kind of frame that an element begins, with what the kind tells of the frame
 abbrev pub FirstOf : kind.Kind → Element → Type 0
-FirstOf k e = (spanOf k ≡ spanAt (kindOf e)) × (addressOf (goesTo k) ≡ addressAt (kindOf e))
+FirstOf k e = (Some k ≡ kindOf e) × (spanOf k ≡ spanAt (kindOf e)) × (addressOf (goesTo k) ≡ addressAt (kindOf e))
 
 -- a link content whose fields are those of the element
 pub record SameLink (l : Link) (m : LinkContent) : Type 0 where
