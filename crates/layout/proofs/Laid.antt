@@ -15,7 +15,7 @@ use Rattle.kind.specs.Kinds.{destinationOf}
 use Rattle.layout.specs.Fields.{word16, part}
 use Rattle.layout.specs.Elements.{Element, test, topologyChange, linkDown, linkUp, common, end, none, stands, testAt, topologyChangeAt, linkDownAt, linkUpAt, commonAt, elementAt, sizeOf, kindOf, spanAt, addressAt, inValues}
 use Rattle.layout.specs.Reading.{Reading, refused, accepted, check, isSized, Head, headOf, allZero, readEnd, readFirst, readHead, reading}
-use Rattle.layout.specs.Layout.{two, octetsOf, frameOf, LaidOut, Accepted-laid-out}
+use Rattle.layout.specs.Layout.{two, linkOctets, octetsOf, encode, LaidOut, Accepted-laid-out}
 use Rattle.layout.proofs.Spelled.{Spells, join, Octets, part-of, two-of, four-of, Stood, stood, zeros-are}
 
 -- the octets of an element stand where it was read
@@ -32,8 +32,7 @@ topologyChange-laid xs i a s =
     let r = s .room in
     join (join (join (s .head) (two-of xs (i + 2) a (omega arith))) (part-of xs (i + 4) 6)) (two-of xs (i + 10) a (omega arith))
 
--- LinkDown and LinkUp differ in their type t alone
-link-laid : (xs : List ℕ) (i t : ℕ) → Octets xs → Stood xs i t 12 → Spells xs i 14 ((t ∷ 12 ∷ []) ++ part xs (i + 2) 6 .octets ++ two (word16 xs (i + 8)) ++ two (word16 xs (i + 10)) ++ two (word16 xs (i + 12)))
+link-laid : (xs : List ℕ) (i t : ℕ) → Octets xs → Stood xs i t 12 → Spells xs i 14 (linkOctets t (part xs (i + 2) 6 .octets) (word16 xs (i + 8)) (word16 xs (i + 10)) (word16 xs (i + 12)))
 link-laid xs i t a s =
     let r = s .room in
     join (join (join (join (s .head) (part-of xs (i + 2) 6)) (two-of xs (i + 8) a (omega arith))) (two-of xs (i + 10) a (omega arith))) (two-of xs (i + 12) a (omega arith))
@@ -94,10 +93,10 @@ whole xs e c a l to t v k first at common-stood end-stood z =
     let q : c + 20 ≡ 0 + (16 + sizeOf e + 20) = omega arith in
     let all = join (join (join head first) (moved (0 + (16 + sizeOf e)) (common-laid xs c a common-stood) p)) (moved (0 + (16 + sizeOf e + 20)) (end-stood .head) q) in
     let n : 16 + sizeOf e + 20 + 2 ≡ 14 + spanAt (kindOf e) = omega arith in
-    let front : take (14 + spanAt (kindOf e)) xs ≡ frameOf (part xs 6 6) e (word16 xs (c + 2)) (part xs (c + 4) 16) = ap (λ m. take m xs) (sym n) ∙ all .is in (
+    let front : take (14 + spanAt (kindOf e)) xs ≡ encode (part xs 6 6) e (word16 xs (c + 2)) (part xs (c + 4) 16) = ap (λ m. take m xs) (sym n) ∙ all .is in (
       length (drop (14 + spanAt (kindOf e)) xs),
       sym (take-append-drop (14 + spanAt (kindOf e)) xs) ∙ ap (λ y. y ++ drop (14 + spanAt (kindOf e)) xs) front
-          ∙ ap (λ y. frameOf (part xs 6 6) e (word16 xs (c + 2)) (part xs (c + 4) 16) ++ y) (zeros-are (drop (14 + spanAt (kindOf e)) xs) z),
+          ∙ ap (λ y. encode (part xs 6 6) e (word16 xs (c + 2)) (part xs (c + 4) 16) ++ y) (zeros-are (drop (14 + spanAt (kindOf e)) xs) z),
     )
 
 -- a check that does not hold is a refusal, of which nothing is said
