@@ -1,0 +1,9 @@
+use native.Mathlib.Omega.{arith}
+use Rattle.std.proofs.shelf.Ways.{tells}
+use Rattle.firmware.proofs.sending.mrp_write_test.Needs as need
+
+pub returns-in-rest : need.returns-in-rest
+returns-in-rest c = record { answer = grind (arith, tells); octets = grind (arith, tells) }
+
+pub returns : need.returns
+returns c = record { answer = grind (arith, tells); octets = grind (arith, tells) }
