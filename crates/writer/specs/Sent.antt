@@ -1,6 +1,8 @@
 -- What the fields of an outgoing frame stand for: the first element that they make, with the sender where it will stand.
-use Prim.Native.Nat.{ℕ, _+_}
+use Prim.Native.Nat.{ℕ, _+_, _<_}
+use mathlib.Core.Path.{_≡_}
 use mathlib.Core.List.{List}
+use lib.ListN.{length}
 use Rattle.kind.specs.declared.Kind as kind
 use Rattle.kind.specs.declared.Kind.the-variants as kinds
 use Rattle.layout.specs.Fields.{Part}
@@ -26,6 +28,13 @@ bodyKind (Test p s r t n c) = kinds.Test
 bodyKind (TopologyChange p s i) = kinds.TopologyChange
 bodyKind (LinkDown l) = kinds.LinkDown
 bodyKind (LinkUp l) = kinds.LinkUp
+
+-- what the types of the fields say of them
+abbrev pub FitsBody : Body → Type 0
+FitsBody (Test p s r t n c) = (length s ≡ 6) × (p < 65536) × (n < 65536) × (c < 4294967296)
+FitsBody (TopologyChange p s i) = (length s ≡ 6) × (p < 65536) × (i < 65536)
+FitsBody (LinkDown l) = (length (l .sender) ≡ 6) × (l .interval < 65536)
+FitsBody (LinkUp l) = (length (l .sender) ≡ 6) × (l .interval < 65536)
 
 -- the octets of the frame
 abbrev pub encoded : Outgoing → List ℕ

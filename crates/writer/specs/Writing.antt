@@ -1,16 +1,18 @@
 -- What writing a frame answers, and what the lent octets hold then.
-use Prim.Native.Nat.{ℕ, _+_}
+use Prim.Native.Nat.{ℕ, _+_, _≤_}
+use mathlib.Core.Path.{_≡_}
 use mathlib.Core.Bool.{cond}
 use mathlib.Core.List.{List, _++_}
 use lib.Dec.{leb}
-use lib.ListN.{length, drop}
+use lib.ListN.{length, take, drop, replicate}
 use Rattle.std.specs.declared.result.Result.{Result}
 use Rattle.std.specs.declared.result.Result.the-variants.{Ok, Err}
 use Rattle.refusal.specs.declared.Refusal.{Refusal}
 use Rattle.refusal.specs.Refusals.{numberOf}
 use Rattle.kind.specs.Kinds.{spanOf}
-use Rattle.layout.specs.Elements.{inValues}
-use Rattle.writer.specs.Sent.{bodyShown, bodyKind, encoded}
+use Rattle.layout.specs.Elements.{inValues, sizeOf}
+use Rattle.layout.specs.Reading.{reading, accepted}
+use Rattle.writer.specs.Sent.{placed, bodyShown, bodyKind, encoded}
 use Rattle.writer.specs.declared.outgoing.Outgoing.{Outgoing}
 
 pub data Answer : Type 0 where
@@ -33,3 +35,8 @@ after f out = cond (inValues (bodyShown (f .body))) (cond (leb (totalOf f) (leng
 abbrev pub answered : Result ℕ Refusal → Answer
 answered (Ok n) = wrote n
 answered (Err e) = refused (numberOf e)
+
+-- what was written is read back as the fields that were given, with any number of zero octets after it, up to 60 octets in all
+abbrev pub ReadsBack : Outgoing → Answer → List ℕ → Type 0
+ReadsBack f (refused n) out = Unit {0}
+ReadsBack f (wrote n) out = (k : ℕ) → n + k ≤ 60 → reading (take n out ++ replicate k 0) ≡ accepted (placed 6 (f .source)) (bodyShown (f .body)) (f .sequence) (placed (20 + sizeOf (bodyShown (f .body))) (f .domain))

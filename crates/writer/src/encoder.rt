@@ -1,12 +1,12 @@
 // The writer: destination, source, type and version, first element, Common and End, one after the other.
 ghost use mathlib.Core.Path.{_≡_};
-ghost use Prim.Native.Nat.{_+_, _≤_};
+ghost use Prim.Native.Nat.{_+_, _<_, _≤_};
 ghost use lib.ListN.{length};
 ghost use Rattle.layout.specs.Elements.{sizeOf, test, topologyChange, common};
 ghost use Rattle.layout.specs.Layout.{octetsOf, linkOctets};
 ghost use Rattle.writer.specs.Over.{over};
-ghost use Rattle.writer.specs.Sent.{placed, bodyShown};
-ghost use Rattle.writer.specs.Writing.{answered, writing, after};
+ghost use Rattle.writer.specs.Sent.{placed, bodyShown, FitsBody};
+ghost use Rattle.writer.specs.Writing.{answered, writing, after, ReadsBack};
 use crate::octets::put;
 use crate::octets::put16;
 use crate::octets::put32;
@@ -18,6 +18,7 @@ use refusal::Refusal;
 pub fn write(frame: &Outgoing, out: &mut [u8]) -> Result<usize, Refusal>
     ensures answers { λ r. ⌜ answered r ≡ writing (now (frame .entry)) (now (out .entry)) ⌝ }
     ensures octets { λ r. ⌜ now (out .exit) ≡ after (now (frame .entry)) (now (out .entry)) ⌝ }
+    ensures back { λ r. ⌜ ReadsBack (now (frame .entry)) (answered r) (now (out .exit)) ⌝ }
 {
     let true = frame.body.in_values() else {
         return Err(Refusal::FieldValue);
@@ -40,6 +41,7 @@ fn put_body(out: &mut [u8], at: usize, body: &Body) -> usize
     ensures place { λ r. ⌜ r ≡ at + sizeOf (bodyShown (now (body .entry))) ⌝ }
     ensures size { λ r. ⌜ length (octetsOf (bodyShown (now (body .entry)))) ≡ sizeOf (bodyShown (now (body .entry))) ⌝ }
     ensures holds { λ _. ⌜ now (out .exit) ≡ over at (octetsOf (bodyShown (now (body .entry)))) (now (out .entry)) ⌝ }
+    ensures fits { λ _. ⌜ FitsBody (now (body .entry)) ⌝ }
 {
     match body {
         Body::Test {
@@ -100,6 +102,7 @@ fn put_test(
 ) -> usize
     requires { ⌜ at + 20 ≤ length (now out) ⌝ }
     ensures place { λ r. ⌜ r ≡ at + 20 ⌝ }
+    ensures fits { λ r. ⌜ (length (now (sender .entry)) ≡ 6) × (priority < 65536) × (transitions < 65536) × (stamp < 4294967296) ⌝ }
     ensures size { λ r. ⌜ length (octetsOf (test priority (placed 20 (now (sender .entry))) role state transitions stamp)) ≡ 20 ⌝ }
     ensures holds { λ _. ⌜ now (out .exit) ≡ over at (octetsOf (test priority (placed 20 (now (sender .entry))) role state transitions stamp)) (now (out .entry)) ⌝ }
 {
@@ -115,6 +118,7 @@ fn put_test(
 fn put_change(out: &mut [u8], at: usize, priority: u16, sender: &[u8; 6], interval: u16) -> usize
     requires { ⌜ at + 12 ≤ length (now out) ⌝ }
     ensures place { λ r. ⌜ r ≡ at + 12 ⌝ }
+    ensures fits { λ r. ⌜ (length (now (sender .entry)) ≡ 6) × (priority < 65536) × (interval < 65536) ⌝ }
     ensures size { λ r. ⌜ length (octetsOf (topologyChange priority (placed 20 (now (sender .entry))) interval)) ≡ 12 ⌝ }
     ensures holds { λ _. ⌜ now (out .exit) ≡ over at (octetsOf (topologyChange priority (placed 20 (now (sender .entry))) interval)) (now (out .entry)) ⌝ }
 {
@@ -135,6 +139,7 @@ fn put_link(
 ) -> usize
     requires { ⌜ at + 14 ≤ length (now out) ⌝ }
     ensures place { λ r. ⌜ r ≡ at + 14 ⌝ }
+    ensures fits { λ r. ⌜ (length (now (sender .entry)) ≡ 6) × (interval < 65536) ⌝ }
     ensures size { λ r. ⌜ length (linkOctets element (now (sender .entry)) role interval blocked) ≡ 14 ⌝ }
     ensures holds { λ _. ⌜ now (out .exit) ≡ over at (linkOctets element (now (sender .entry)) role interval blocked) (now (out .entry)) ⌝ }
 {
@@ -148,6 +153,7 @@ fn put_link(
 fn put_common(out: &mut [u8], at: usize, sequence: u16, domain: &[u8; 16]) -> usize
     requires { ⌜ at + 20 ≤ length (now out) ⌝ }
     ensures place { λ r. ⌜ r ≡ at + 20 ⌝ }
+    ensures fits { λ r. ⌜ (length (now (domain .entry)) ≡ 16) × (sequence < 65536) ⌝ }
     ensures size { λ r. ⌜ length (octetsOf (common sequence (placed 0 (now (domain .entry))))) ≡ 20 ⌝ }
     ensures holds { λ _. ⌜ now (out .exit) ≡ over at (octetsOf (common sequence (placed 0 (now (domain .entry))))) (now (out .entry)) ⌝ }
 {

@@ -18,4 +18,4 @@ returns c =
     let w4 = more (two (a .interval)) w3 (c .put16 .ensures .place) (c .put16 .ensures .holds) in
     let p : c .put16 .result ≡ a .at + 12 = search needs in
     let e = w4 .ends in
-    record { place = p; size = omega (arith, p, e); holds = w4 .holds }
+    record { place = p; fits = search needs; size = omega (arith, p, e); holds = w4 .holds }

@@ -17,4 +17,4 @@ returns c =
     let w3 = more (a .domain .now) w2 (c .put .ensures .place) (c .put .ensures .holds) in
     let p : c .put .result ≡ a .at + 20 = search needs in
     let e = w3 .ends in
-    record { place = p; size = omega (arith, p, e); holds = w3 .holds }
+    record { place = p; fits = search needs; size = omega (arith, p, e); holds = w3 .holds }

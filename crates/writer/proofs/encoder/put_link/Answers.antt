@@ -19,4 +19,4 @@ returns c =
     let w5 = more (two (a .blocked)) w4 (c .put16 .ensures .place) (c .put16 .ensures .holds) in
     let p : c .put16 .result ≡ a .at + 14 = search needs in
     let e = w5 .ends in
-    record { place = p; size = omega (arith, p, e); holds = w5 .holds }
+    record { place = p; fits = search needs; size = omega (arith, p, e); holds = w5 .holds }

@@ -21,4 +21,4 @@ returns c =
     let w7 = more (four (a .stamp)) w6 (c .put32 .ensures .place) (c .put32 .ensures .holds) in
     let p : c .put32 .result ≡ a .at + 20 = search needs in
     let e = w7 .ends in
-    record { place = p; size = omega (arith, p, e); holds = w7 .holds }
+    record { place = p; fits = search needs; size = omega (arith, p, e); holds = w7 .holds }

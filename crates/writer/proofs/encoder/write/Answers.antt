@@ -5,15 +5,18 @@ use Prim.Native.Nat.{_+_, _≤_}
 use native.Mathlib.Omega.{arith}
 use borrow.Author.Needs.{needs}
 use lib.Dec.{leb}
-use lib.ListN.{length, drop}
+use lib.ListN.{length, take, drop, replicate}
+use Rattle.std.proofs.shelf.Lists.{take-at}
 use Rattle.kind.specs.Kinds.{addressOf, goesTo}
 use Rattle.layout.specs.Elements.{inValues, common, kindOf, addressAt}
 use Rattle.layout.specs.Layout.{octetsOf}
+use Rattle.layout.specs.Reading.{reading}
 use Rattle.writer.specs.Over.{over}
 use Rattle.writer.specs.Sent.{placed, bodyShown, bodyKind, encoded}
 use Rattle.writer.specs.Writing.{wrote, totalOf}
 use Rattle.writer.proofs.Bodies.{to-address, span-size}
 use Rattle.writer.proofs.Puts.{first, more}
+use Rattle.writer.proofs.ReadBack.{read-back}
 use Rattle.writer.proofs.encoder.write.Needs as need
 
 pub returns : need.returns
@@ -34,7 +37,15 @@ returns c =
     let n : c .put .result ≡ totalOf f = search needs in
     let v : inValues (bodyShown (f .body)) ≡ true = sym (c .in-true .ensures tt) in
     let l : leb (totalOf f) (length old) ≡ true = search needs in
+    let r = c .put .result in
+    let ends = w7 .ends in
+    let whole : length (encoded f) ≡ r = omega (arith, ends) in
+    let front : take r (c .put .last .out) ≡ encoded f = ap (take r) (w7 .holds) ∙ take-at (encoded f) (drop (0 + length (encoded f)) old) r whole in
+    let six : length (f .source) ≡ 6 = search needs in
+    let common-fits = c .put-common-at .ensures .fits in
+    let body-fits = c .put-body-at .ensures .fits in
     record {
       answers = ap wrote n ∙ sym (rw (v, l) refl);
       octets = w7 .holds ∙ ap (λ k. encoded f ++ drop k old) (sym (w7 .ends) ∙ n) ∙ sym (rw (v, l) refl);
+      back = λ k h. ap (λ t. reading (t ++ replicate k 0)) front ∙ read-back (f .source) (f .body) (f .sequence) (f .domain) k six body-fits (common-fits .1) (common-fits .0) v (omega (arith, n, h));
     }
