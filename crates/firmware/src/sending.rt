@@ -83,12 +83,12 @@ pub extern "C" fn mrp_write_topology_change(
     let Some(sender) = address(sender) else {
         return 8;
     };
-    let body = Body::TopologyChange {
+    let change = Body::TopologyChange {
         priority,
         sender,
         interval,
     };
-    send(source, body, sequence, domain, out)
+    send(source, change, sequence, domain, out)
 }
 
 // Writes a LinkDown frame.

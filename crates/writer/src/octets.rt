@@ -24,10 +24,10 @@ pub(crate) fn put16(out: &mut [u8], at: usize, n: u16) -> usize
     put(out, at, &n.to_be_bytes())
 }
 
-pub(crate) fn put32(out: &mut [u8], at: usize, n: u32) -> usize
+pub(crate) fn put32(out: &mut [u8], at: usize, number: u32) -> usize
     requires { ⌜ at + 4 ≤ length (now out) ⌝ }
     ensures place { λ r. ⌜ r ≡ at + 4 ⌝ }
-    ensures holds { λ _. ⌜ now (out .exit) ≡ over at (four n) (now (out .entry)) ⌝ }
+    ensures holds { λ _. ⌜ now (out .exit) ≡ over at (four number) (now (out .entry)) ⌝ }
 {
-    put(out, at, &n.to_be_bytes())
+    put(out, at, &number.to_be_bytes())
 }
