@@ -1,4 +1,4 @@
-//! Reads a line of hexadecimal octets, one character at a time.
+// Reads a line of hexadecimal octets, one character at a time.
 ghost use mathlib.Core.Path.{_≡_};
 ghost use mathlib.Core.List.{List, [], _∷_};
 ghost use Prim.Native.Nat.{ℕ, _<_};
@@ -14,7 +14,7 @@ pub use reader::Line;
 use reader::Place;
 pub use reader::Reading;
 
-/// The value of a hexadecimal digit.
+// The value of a hexadecimal digit.
 fn digit(c: u8) -> Option<u8>
     ensures { λ r. ⌜ r ≡ digitOf c ⌝ }
 {
@@ -26,14 +26,14 @@ fn digit(c: u8) -> Option<u8>
     }
 }
 
-/// Whether a character may stand between octets and means nothing there.
+// Whether a character may stand between octets and means nothing there.
 fn is_gap(c: u8) -> bool
     ensures { λ r. ⌜ r ≡ isGap c ⌝ }
 {
     matches!(c, b' ' | b'\t' | b'\r' | b':' | b'-')
 }
 
-/// Where a line stands after `c`, which begins an octet or stands between two.
+// Where a line stands after `c`, which begins an octet or stands between two.
 fn begin(c: u8) -> Place
     ensures rest { λ r. ⌜ ((rest : List ℕ) → octetsFrom r rest ≡ octetsOf (c ∷ rest)) ⌝ }
     ensures small { λ r. ⌜ openDigit r < 16 ⌝ }
@@ -51,7 +51,7 @@ fn begin(c: u8) -> Place
 }
 
 impl Line {
-    /// A line of which nothing has been read.
+    // A line of which nothing has been read.
     pub fn new() -> Line
         ensures { λ r. ⌜ ((rest : List ℕ) → holds r rest ≡ contentOf rest) ⌝ }
     {
@@ -62,7 +62,7 @@ impl Line {
         }
     }
 
-    /// Keeps one more octet, where there is room for it.
+    // Keeps one more octet, where there is room for it.
     fn keep(&mut self, octet: u8)
         ensures place { λ _. ⌜ now (self .exit) .place ≡ now (self .entry) .place ⌝ }
         ensures octets { λ _. ⌜ ((more : List ℕ) → begunWith (now (self .exit)) (Some more) ≡ begunWith (now (self .entry)) (Some (octet ∷ more))) ⌝ }
@@ -73,7 +73,7 @@ impl Line {
         }
     }
 
-    /// Takes the next character of the line.
+    // Takes the next character of the line.
     pub fn feed(&mut self, c: u8)
         ensures { λ _. ⌜ ((rest : List ℕ) → holds (now (self .exit)) rest ≡ holds (now (self .entry)) (c ∷ rest)) ⌝ }
     {
@@ -90,7 +90,7 @@ impl Line {
         }
     }
 
-    /// What the line says if it ends here.
+    // What the line says if it ends here.
     pub fn reading(&self) -> Reading<'_>
         ensures { λ r. ⌜ shown r ≡ holds (now (self .entry)) [] ⌝ }
     {
@@ -104,7 +104,7 @@ impl Line {
     }
 }
 
-/// The line of these characters, whose `reading` says what they hold.
+// The line of these characters, whose `reading` says what they hold.
 pub fn read_line(text: &[u8]) -> Line
     ensures { λ r. ⌜ holds r [] ≡ contentOf (now (text .entry)) ⌝ }
 {

@@ -1,4 +1,4 @@
-//! Lines of hexadecimal octets, read as a program would read them.
+// Lines of hexadecimal octets, read as a program would read them.
 
 #[cfg(test)]
 mod tests {
