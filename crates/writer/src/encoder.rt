@@ -4,6 +4,7 @@ ghost use Prim.Native.Nat.{_+_, _<_, _≤_};
 ghost use lib.ListN.{length};
 ghost use Rattle.layout.specs.Elements.{sizeOf, test, topologyChange, common};
 ghost use Rattle.layout.specs.Layout.{octetsOf, linkOctets};
+ghost use Rattle.frame.specs.Shown.{roleNumber, blockedNumber};
 ghost use Rattle.writer.specs.Over.{over};
 ghost use Rattle.writer.specs.Sent.{placed, bodyShown, FitsBody};
 ghost use Rattle.writer.specs.Writing.{answered, writing, after, ReadsBack};
@@ -11,6 +12,7 @@ use crate::octets::put;
 use crate::octets::put16;
 use crate::octets::put32;
 use crate::outgoing::Body;
+use crate::outgoing::LinkBody;
 use crate::outgoing::Outgoing;
 use refusal::Refusal;
 
@@ -69,24 +71,8 @@ fn put_body(out: &mut [u8], at: usize, body: &Body) -> usize
             sender,
             interval,
         } => put_change(out, at, *priority, sender, *interval),
-        Body::LinkDown(link) => put_link(
-            out,
-            at,
-            4,
-            &link.sender,
-            link.role.number(),
-            link.interval,
-            link.blocked_number(),
-        ),
-        Body::LinkUp(link) => put_link(
-            out,
-            at,
-            5,
-            &link.sender,
-            link.role.number(),
-            link.interval,
-            link.blocked_number(),
-        ),
+        Body::LinkDown(link) => put_link_body(out, at, 4, link),
+        Body::LinkUp(link) => put_link_body(out, at, 5, link),
     }
 }
 
@@ -126,6 +112,25 @@ fn put_change(out: &mut [u8], at: usize, priority: u16, sender: &[u8; 6], interv
     let at = put16(out, at, priority);
     let at = put(out, at, sender);
     put16(out, at, interval)
+}
+
+fn put_link_body(out: &mut [u8], at: usize, element: u8, link: &LinkBody) -> usize
+    requires { ⌜ at + 14 ≤ length (now out) ⌝ }
+    ensures place { λ r. ⌜ r ≡ at + 14 ⌝ }
+    ensures fits { λ r. ⌜ (length (now (link .entry) .sender) ≡ 6) × (now (link .entry) .interval < 65536) ⌝ }
+    ensures size { λ r. ⌜ length (linkOctets element (now (link .entry) .sender) (roleNumber (now (link .entry) .role)) (now (link .entry) .interval) (blockedNumber (now (link .entry) .blocked))) ≡ 14 ⌝ }
+    ensures holds { λ _. ⌜ now (out .exit) ≡ over at (linkOctets element (now (link .entry) .sender) (roleNumber (now (link .entry) .role)) (now (link .entry) .interval) (blockedNumber (now (link .entry) .blocked))) (now (out .entry)) ⌝ }
+{
+    let role = link.role.number();
+    put_link(
+        out,
+        at,
+        element,
+        &link.sender,
+        role,
+        link.interval,
+        link.blocked_number(),
+    )
 }
 
 fn put_link(
