@@ -3,7 +3,7 @@ ghost use mathlib.Core.Path.{_≡_};
 ghost use Prim.Native.Nat.{_+_, _≤_};
 ghost use lib.ListN.{length};
 ghost use Rattle.std.specs.Options.{Cases};
-ghost use Rattle.layout.specs.Fields.{part as piece, word16 as word};
+ghost use Rattle.layout.specs.Fields.{octet, part as piece, word16 as word};
 ghost use Rattle.layout.specs.Elements.{elementAt, testAt, topologyChangeAt, commonAt, sizeOf, stands};
 ghost use Rattle.element.specs.Shown.{partOf, elementShown, found, isCommon, isEnd, CommonHas};
 use crate::part::Part;
@@ -63,8 +63,8 @@ impl<'a> Elements<'a> {
         ensures place { λ r. ⌜ now (self .exit) .at ≡ now (self .entry) .at + sizeOf (found r) ⌝ }
     {
         let next = element_at(self.octets, self.at);
-        if let Some(element) = &next {
-            self.at += size(element);
+        if next.is_some() {
+            self.at += 2 + self.octets[self.at + 1] as usize;
         }
         next
     }
@@ -75,7 +75,7 @@ fn element_at<'a>(octets: &'a [u8], at: usize) -> Option<Element<'a>>
     ensures common { λ r. ⌜ isCommon (found r) ≡ stands (now (octets .entry)) at 1 18 ⌝ }
     ensures fields { λ r. ⌜ CommonHas (found r) (word (now (octets .entry)) (at + 2)) (piece (now (octets .entry)) (at + 4) 16) ⌝ }
     ensures end { λ r. ⌜ isEnd (found r) ≡ stands (now (octets .entry)) at 0 0 ⌝ }
-    ensures within { λ r. ⌜ Cases r (Unit {0}) (λ e. at + sizeOf (elementShown e) ≤ length (now (octets .entry))) ⌝ }
+    ensures within { λ r. ⌜ Cases r (Unit {0}) (λ e. (at + sizeOf (elementShown e) ≤ length (now (octets .entry))) × (sizeOf (elementShown e) ≡ 2 + octet (now (octets .entry)) (at + 1)) × (2 ≤ sizeOf (elementShown e))) ⌝ }
 {
     if octets.len() < 2 || octets.len() - 2 < at {
         return None;
@@ -142,19 +142,5 @@ fn common_at<'a>(octets: &'a [u8], at: usize) -> Element<'a>
     Element::Common {
         sequence: word16(octets, at + 2),
         domain: cut(octets, at + 4, 16),
-    }
-}
-
-// How many octets an element has, with its type and length.
-fn size(element: &Element) -> usize
-    ensures { λ r. ⌜ r ≡ sizeOf (elementShown (now (element .entry))) ⌝ }
-{
-    match element {
-        Element::Test { .. } => 20,
-        Element::TopologyChange { .. } => 12,
-        Element::LinkDown(_) => 14,
-        Element::LinkUp(_) => 14,
-        Element::Common { .. } => 20,
-        Element::End => 2,
     }
 }
