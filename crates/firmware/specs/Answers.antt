@@ -12,6 +12,7 @@ use Rattle.kind.specs.Kinds.{typeOf}
 use Rattle.layout.specs.Elements.{Element, test, topologyChange, linkDown, linkUp, common, end, none, kindOf, spanAt, sizeOf, inValues}
 use Rattle.layout.specs.Reading.{Reading, refused, accepted}
 use Rattle.layout.specs.Layout.{encode}
+use Rattle.frame.specs.Checked.{Checked, unfit, fit, kindReading}
 use Rattle.frame.specs.Shown.{roleNumber, blockedNumber}
 use Rattle.writer.specs.declared.outgoing.LinkBody.{LinkBody}
 use Rattle.writer.specs.Sent.{placed}
@@ -22,9 +23,12 @@ kindNumber (Some k) = 256 + typeOf k
 kindNumber None = 0
 
 -- the number of the kind, or of the refusal
+abbrev pub checkedNumber : Checked → ℕ
+checkedNumber (unfit n) = n
+checkedNumber (fit k) = kindNumber k
+
 abbrev pub readNumber : Reading → ℕ
-readNumber (refused n) = n
-readNumber (accepted s e n d) = kindNumber (kindOf e)
+readNumber r = checkedNumber (kindReading r)
 
 -- what stands for no value
 abbrev pub noValue : ℕ

@@ -5,6 +5,7 @@ ghost use Rattle.frame.specs.Shown.{contentShown, blockedNumber, roleNumber};
 ghost use Rattle.firmware.specs.Answers.{readNumber, fieldNumber, elementField, linkField};
 use frame::Content;
 use frame::Link;
+use frame::frame_kind;
 use frame::read;
 
 // What stands for no value: no field is so large.
@@ -15,8 +16,8 @@ const NO_VALUE: u64 = 0x1_0000_0000;
 pub extern "C" fn mrp_read(octets: &[u8]) -> u32
     ensures { λ r. ⌜ r ≡ readNumber (reading (now (octets .entry))) ⌝ }
 {
-    match read(octets) {
-        Ok(frame) => 0x100 + u32::from(frame.content.kind().element_type()),
+    match frame_kind(octets) {
+        Ok(kind) => 0x100 + u32::from(kind.element_type()),
         Err(refusal) => u32::from(refusal.number()),
     }
 }

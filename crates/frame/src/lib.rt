@@ -1,4 +1,5 @@
 // Reads MRP frames: every list of octets is a frame with its fields, or is refused by the first check that it fails.
+mod check;
 mod content;
 
 ghost use mathlib.Core.Path.{_≡_};
@@ -10,6 +11,7 @@ ghost use Rattle.layout.specs.Reading.{reading, readFirst, allZero};
 ghost use Rattle.layout.specs.Layout.{LaidOut};
 ghost use Rattle.element.specs.Shown.{Passes, headShown, elementShown};
 ghost use Rattle.frame.specs.Shown.{outcome, FirstOf};
+pub use check::frame_kind;
 pub use content::Content;
 pub use content::Link;
 pub use content::PortRole;
@@ -105,7 +107,7 @@ fn kind_of(element: &Element) -> Option<Kind>
 }
 
 // Whether all octets from `end` on are zero.
-fn zero_from(octets: &[u8], end: usize) -> bool
+pub(crate) fn zero_from(octets: &[u8], end: usize) -> bool
     requires { ⌜ end ≤ length (now octets) ⌝ }
     ensures { λ r. ⌜ r ≡ allZero (drop end (now (octets .entry))) ⌝ }
 {
