@@ -9,16 +9,22 @@ use std::time::Instant;
 
 const SEED: u64 = 62_439;
 const RUNS: usize = 5;
+/// The number of the field in `mrp_field`.
+const SEQUENCE: u32 = 0;
 
 /// Different frames in a set, and frames measured in a run.
 const FRAMES: usize = 4_096;
 const MEASURED: usize = 4_000_000;
 
-type Reader = fn(&[u8]) -> u32;
+type Reader = fn(&[u8]) -> u64;
 type Writer = fn(&plain::Fields, &mut [u8]) -> u32;
 
-const READERS: [(&str, Reader); 3] =
-    [("library", library::read), ("typed", typed::read_kind), ("tuned", tuned::read_kind)];
+/// The kind of a frame or its refusal, and nothing else.
+const KINDS: [(&str, Reader); 2] =
+    [("library", |octets| u64::from(library::read(octets))), ("tuned", |octets| u64::from(tuned::read_kind(octets)))];
+/// A whole frame, of which the sequence number is answered.
+const FRAMES_READ: [(&str, Reader); 2] =
+    [("library", |octets| library::field(octets, SEQUENCE)), ("typed", typed::read_sequence)];
 const WRITERS: [(&str, Writer); 2] = [("library", library::write), ("plain", plain::write)];
 
 fn main() -> ExitCode {
@@ -38,8 +44,10 @@ fn measure() -> Result<(), String> {
     let valid: Vec<Octets> = (0..FRAMES).map(|_| accepted(&mut random)).collect();
     let damaged: Vec<Octets> = (0..FRAMES).map(|_| reading::damaged_frame(&mut random)).collect();
     for (name, frames) in [("captured", captured), ("valid", valid), ("damaged", damaged)] {
-        same_answers(&frames)?;
-        measure_reads(&format!("read, {name}"), &frames);
+        for (work, readers) in [("read", FRAMES_READ), ("kind", KINDS)] {
+            same_answers(&frames, readers)?;
+            measure_reads(&format!("{work}, {name}"), &frames, readers);
+        }
     }
     let samples: Vec<Sample> = (0..FRAMES).map(|number| Sample::random(&mut random, number % 4)).collect();
     measure_writes("write, valid", &samples);
@@ -60,9 +68,9 @@ fn captured_frames() -> Result<Vec<Octets>, String> {
 }
 
 /// What is measured has to do the same work.
-fn same_answers(frames: &[Octets]) -> Result<(), String> {
+fn same_answers(frames: &[Octets], readers: [(&str, Reader); 2]) -> Result<(), String> {
     for frame in frames {
-        let answers = READERS.map(|(_, read)| read(frame.as_slice()));
+        let answers = readers.map(|(_, read)| read(frame.as_slice()));
         if answers.iter().any(|answer| *answer != answers[0]) {
             return Err(format!("frame {} is read as {answers:?}", hex::to_hex(frame.as_slice())));
         }
@@ -70,15 +78,15 @@ fn same_answers(frames: &[Octets]) -> Result<(), String> {
     Ok(())
 }
 
-fn measure_reads(title: &str, frames: &[Octets]) -> [[f64; RUNS]; 3] {
-    let speeds = runs(READERS.map(|(_, read)| {
+fn measure_reads(title: &str, frames: &[Octets], readers: [(&str, Reader); 2]) -> [[f64; RUNS]; 2] {
+    let speeds = runs(readers.map(|(_, read)| {
         move || {
             for frame in frames.iter().cycle().take(MEASURED) {
                 black_box(read(black_box(frame.as_slice())));
             }
         }
     }));
-    print_speeds(title, &READERS.map(|(name, _)| name), &speeds);
+    print_speeds(title, &readers.map(|(name, _)| name), &speeds);
     speeds
 }
 
@@ -95,11 +103,11 @@ fn measure_writes(title: &str, samples: &[Sample]) {
     print_speeds(title, &WRITERS.map(|(name, _)| name), &speeds);
 }
 
-/// All three answer no octets at once, so that this is the time of a call.
+/// Both answer no octets at once, so that this is the time of a call.
 fn measure_call() {
     let empty = [Octets { buffer: [0; LONGEST], length: 0 }];
-    let speeds = measure_reads("read, no octets", &empty);
-    for ((name, _), speeds) in READERS.iter().zip(&speeds) {
+    let speeds = measure_reads("kind, no octets", &empty, KINDS);
+    for ((name, _), speeds) in KINDS.iter().zip(&speeds) {
         println!("one call with no octets, {name}: {:.2} ns", 1_000.0 / median(speeds));
     }
 }

@@ -1,5 +1,7 @@
 //! A reader in ordinary Rust with the types of the proved one: a walk over elements, and a chain of checks.
 
+use crate::plain::NO_VALUE;
+
 const MC_TEST: [u8; 6] = [0x01, 0x15, 0x4E, 0x00, 0x00, 0x01];
 const MC_CONTROL: [u8; 6] = [0x01, 0x15, 0x4E, 0x00, 0x00, 0x02];
 
@@ -179,15 +181,6 @@ impl Content {
             Element::Common { .. } | Element::End => None,
         }
     }
-
-    pub fn kind(&self) -> u32 {
-        match self {
-            Content::Test { .. } => 0x102,
-            Content::TopologyChange { .. } => 0x103,
-            Content::LinkDown(_) => 0x104,
-            Content::LinkUp(_) => 0x105,
-        }
-    }
 }
 
 /// The frame in these octets: the checks in the order of their numbers.
@@ -238,12 +231,12 @@ fn rest<'a>(elements: &mut Elements<'a>) -> Result<(u16, Part<'a>), Refusal> {
     Ok((sequence, domain))
 }
 
-/// The kind of the frame or the number of its refusal, as `mrp_read` answers.
+/// The sequence number of the frame, or 2^32 and the number of its refusal, as `mrp_field` answers.
 #[inline(never)]
-pub fn read_kind(octets: &[u8]) -> u32 {
+pub fn read_sequence(octets: &[u8]) -> u64 {
     match read(octets) {
-        Ok(frame) => frame.content.kind(),
-        Err(refusal) => refusal as u32,
+        Ok(frame) => u64::from(frame.sequence),
+        Err(refusal) => NO_VALUE + refusal as u64,
     }
 }
 
