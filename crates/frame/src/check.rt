@@ -4,6 +4,9 @@ ghost use Prim.Native.Nat.{_+_, _≤_};
 ghost use lib.Dec.{leb};
 ghost use lib.ListN.{length, take, drop};
 ghost use Rattle.std.specs.Options.{isSome};
+ghost use Rattle.std.specs.declared.option.Option.the-variants.{Some};
+ghost use Rattle.std.specs.shelf.Text.{sameBytes};
+ghost use Rattle.kind.specs.Kinds.{destinationOf, addressOf, goesTo};
 ghost use Rattle.layout.specs.Fields.{word16 as word};
 ghost use Rattle.layout.specs.Elements.{elementAt, kindOf, inValues, isPriority, stands};
 ghost use Rattle.layout.specs.Reading.{reading, readFirst, headOf};
@@ -11,6 +14,7 @@ ghost use Rattle.element.specs.Shown.{Passes};
 ghost use Rattle.frame.specs.Checked.{checked, kindReading, firstAt, KindAt};
 use crate::zero_from;
 use kind::Destination;
+use kind::DestinationPartialEq;
 use kind::Kind;
 use refusal::Refusal;
 
@@ -20,7 +24,7 @@ pub fn frame_kind(octets: &[u8]) -> Result<Kind, Refusal>
     let 50..=60 = octets.len() else {
         return Err(Refusal::FrameSize);
     };
-    let Some(_) = Destination::of(&octets[0..6]) else {
+    let Some(destination) = Destination::of(&octets[0..6]) else {
         return Err(Refusal::UnknownDestination);
     };
     let 0x88E3 = word_at(octets, 12) else {
@@ -29,11 +33,13 @@ pub fn frame_kind(octets: &[u8]) -> Result<Kind, Refusal>
     let 1 = word_at(octets, 14) else {
         return Err(Refusal::Version);
     };
-    check_elements(octets)
+    check_elements(octets, destination)
 }
 
-fn check_elements(octets: &[u8]) -> Result<Kind, Refusal>
-    requires { ⌜ 50 ≤ length (now octets) ⌝ }
+// Goes on from the version, which is known to be 1.
+fn check_elements(octets: &[u8], destination: Destination) -> Result<Kind, Refusal>
+    requires long { ⌜ 50 ≤ length (now octets) ⌝ }
+    requires to { ⌜ Some destination ≡ destinationOf (take 6 (drop 0 (now octets))) ⌝ }
     ensures { λ r. ⌜ checked r ≡ kindReading (readFirst (now (octets .entry)) (headOf (now (octets .entry))) (elementAt (now (octets .entry)) 16)) ⌝ }
 {
     let Some(kind) = first_kind(octets) else {
@@ -43,7 +49,7 @@ fn check_elements(octets: &[u8]) -> Result<Kind, Refusal>
     let true = total <= octets.len() else {
         return Err(Refusal::TooShort);
     };
-    let true = kind.destination().is(&octets[0..6]) else {
+    let true = goes_to(octets, destination, kind) else {
         return Err(Refusal::WrongDestination);
     };
     let true = fields_fit(octets, kind) else {
@@ -59,6 +65,14 @@ fn check_elements(octets: &[u8]) -> Result<Kind, Refusal>
         return Err(Refusal::Padding);
     };
     Ok(kind)
+}
+
+// Whether the destination is that of the kind.
+fn goes_to(octets: &[u8], destination: Destination, kind: Kind) -> bool
+    requires { ⌜ Some destination ≡ destinationOf (take 6 (drop 0 (now octets))) ⌝ }
+    ensures { λ r. ⌜ r ≡ sameBytes (take 6 (drop 0 (now (octets .entry)))) (addressOf (goesTo kind)) ⌝ }
+{
+    kind.destination() == destination
 }
 
 // The kind of frame that begins with the element after the version.
