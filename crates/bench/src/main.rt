@@ -1,4 +1,6 @@
 // Plays one node: reads commands from standard input, one a line, and prints what the node answers, is and sends.
+#![tactic(auto)]
+
 mod arguments;
 mod bad_line;
 mod command;

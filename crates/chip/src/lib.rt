@@ -1,4 +1,6 @@
 // The plain chip: it learns no address, and keeps both port states in one octet.
+#![tactic(auto)]
+
 ghost use Rattle.std.specs.Prelude.{◌≡◌, [], refl};
 ghost use Rattle.switch.specs.Ports.{state_number};
 ghost use Rattle.chip.specs.Octet.{state_of, chip_meaning};

@@ -1,4 +1,6 @@
 // Finds the frames in which one sender used one sequence number on two kinds of frame.
+#![tactic(auto)]
+
 mod entry;
 pub mod history;
 mod index;

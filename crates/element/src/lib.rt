@@ -1,4 +1,6 @@
 // The head of a frame, and the walk over its elements. Both show parts of the frame's own octets.
+#![tactic(auto)]
+
 mod head;
 mod part;
 mod walk;

@@ -1,4 +1,6 @@
 // What happens to a node: a link turns, a frame comes, a timer runs out.
+#![tactic(auto)]
+
 ghost use Rattle.std.specs.Prelude.{◌≡◌};
 ghost use Rattle.event.specs.Events.{timer_of};
 

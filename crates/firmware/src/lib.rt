@@ -1,4 +1,6 @@
 // The library as firmware in C calls it: numbers, and octets as a pointer and a length.
+#![tactic(auto)]
+
 mod reading;
 mod sending;
 

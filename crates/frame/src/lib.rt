@@ -1,4 +1,6 @@
 // Reads MRP frames: every list of octets is a frame with its fields, or is refused by the first check that it fails.
+#![tactic(auto)]
+
 mod check;
 mod content;
 

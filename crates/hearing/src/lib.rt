@@ -1,4 +1,6 @@
 // What a frame says to a node.
+#![tactic(auto)]
+
 ghost use Rattle.std.specs.Prelude.{◌≡◌, Ok};
 ghost use Rattle.std.specs.Str.{bytes_eq};
 ghost use Rattle.frame.specs.Shown.{content_shown};

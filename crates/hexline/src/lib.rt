@@ -1,4 +1,6 @@
 // Reads a line of hexadecimal octets, one character at a time.
+#![tactic(auto)]
+
 ghost use Rattle.std.specs.Prelude.{◌≡◌, ℕ, ◌<◌, List, [], ◌∷◌, Some};
 ghost use Rattle.hexline.specs.Line.{content_of, digit_of, is_gap, octets_of};
 ghost use Rattle.hexline.specs.Held.{open_digit};

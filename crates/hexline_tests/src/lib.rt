@@ -1,4 +1,5 @@
 // Lines of hexadecimal octets, read as a program would read them.
+#![tactic(auto)]
 
 #[cfg(test)]
 mod tests {

@@ -1,4 +1,6 @@
 // The four kinds of frame, and the two addresses that frames go to.
+#![tactic(auto)]
+
 ghost use Rattle.std.specs.Prelude.{◌≡◌};
 ghost use Rattle.std.specs.Str.{bytes_eq};
 ghost use Rattle.kind.specs.Kinds.{type_of, name_of, span_of, goes_to, address_of, destination_of};

@@ -1,4 +1,6 @@
 // What a frame is, octet by octet: the definitions stand in specs/, and the worked cases are proved here.
+#![tactic(auto)]
+
 ghost use Rattle.std.specs.Prelude.{◌≡◌};
 ghost use Rattle.layout.specs.Worked.{change, WorkedCases};
 

@@ -1,4 +1,6 @@
 // The store at work, in a loop that a benchmark outside can time. It answers a sum over the frames it met.
+#![tactic(auto)]
+
 use refusal::Refusal;
 use store::hand::InHand;
 use store::store::Store;

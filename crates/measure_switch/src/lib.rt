@@ -1,4 +1,6 @@
 // Loops over the table switch, for measuring it beside a plain Rust table.
+#![tactic(auto)]
+
 ghost use Rattle.std.specs.Prelude.{◌≡◌};
 ghost use Rattle.switch.specs.Meanings.{fresh};
 ghost use Rattle.switch.specs.declared.port.Port.TheVariants.{One};

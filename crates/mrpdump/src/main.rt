@@ -1,4 +1,6 @@
 // Reads frames from standard input, one a line as hexadecimal octets, and prints the fields or the refusal of each.
+#![tactic(auto)]
+
 mod dump;
 
 use dump::Dump;

@@ -1,4 +1,6 @@
 // A node of a ring, client or manager, apart from its switch.
+#![tactic(auto)]
+
 ghost use Rattle.std.specs.Prelude.{◌≡◌};
 ghost use Rattle.settings.specs.Setups.{setup};
 ghost use Rattle.event.specs.Events.{turns as turned, hears as heard_at, expires as expired};

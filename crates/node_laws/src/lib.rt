@@ -1,4 +1,6 @@
 // What holds of a node after every run of events, whatever its switch.
+#![tactic(auto)]
+
 ghost use Rattle.std.specs.Prelude.{◌≡◌};
 ghost use Rattle.node_laws.specs.Tables.{AlwaysFit, AlwaysOpens, AlwaysInCount, FourFrames};
 ghost use Rattle.node_laws.specs.Announcements.{Countdown, WorkedAnnouncement};

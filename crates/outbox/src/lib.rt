@@ -1,4 +1,6 @@
 // What a node sends in one step: frames in four lent places, each with its port and its total.
+#![tactic(auto)]
+
 mod message;
 mod places;
 

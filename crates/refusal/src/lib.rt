@@ -1,4 +1,6 @@
 // Every refusal of the product: its number and a sentence that a customer can read.
+#![tactic(auto)]
+
 ghost use Rattle.std.specs.Prelude.{◌≡◌, ◌≤◌, Some};
 ghost use Rattle.refusal.specs.Refusals.{number_of, sentence_of};
 

@@ -1,4 +1,6 @@
 // What a ring is and what holds of it after every history of calls: definitions and laws.
+#![tactic(auto)]
+
 ghost use Rattle.std.specs.Prelude.{◌≡◌};
 ghost use Rattle.rings.specs.Laws.{TestsAddUp, AtMost128, LoopIsOpen, OpenIsLate, LinkUpStartsNone, HomeLeavesNone, TwiceIsLoop, OnceIsClosed};
 ghost use Rattle.rings.specs.Worked.{WorkedRing, WorkedFlood};

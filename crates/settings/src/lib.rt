@@ -1,4 +1,6 @@
 // What a node is fitted with: intervals, counts, priority, domain and address, always within their limits.
+#![tactic(auto)]
+
 mod draft;
 mod values;
 

@@ -1,4 +1,6 @@
 // Tests of the frame store.
+#![tactic(auto)]
+
 mod errands;
 
 #[cfg(test)]

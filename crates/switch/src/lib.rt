@@ -1,4 +1,6 @@
 // A switch by its meaning: the states of its two ring ports, and the port at which each known address was heard.
+#![tactic(auto)]
+
 mod address;
 mod data;
 mod port;

@@ -1,4 +1,5 @@
 // Switches of every kind: filled, cleared, turned, and handed data frames.
+#![tactic(auto)]
 
 #[cfg(test)]
 mod tests {

@@ -1,4 +1,6 @@
 // The table switch: it knows up to 64 addresses.
+#![tactic(auto)]
+
 mod entry;
 mod table;
 

@@ -1,4 +1,6 @@
 // Octets and frames as text.
+#![tactic(auto)]
+
 mod fields;
 mod octets;
 

@@ -1,4 +1,6 @@
 // Any other switch with its ring ports 1 and 2 exchanged.
+#![tactic(auto)]
+
 ghost use Rattle.std.specs.Prelude.{◌≡◌};
 ghost use Rattle.turned.specs.Turning.{exchanged, TurnedTwice};
 ghost use Rattle.turned.specs.Exchange.{exchanged_sound};

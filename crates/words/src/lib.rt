@@ -1,4 +1,6 @@
 // The words of a line of commands, and the decimal numbers among them.
+#![tactic(auto)]
+
 mod line;
 mod number;
 

@@ -1,4 +1,6 @@
 // Writes MRP frames into octets that are lent.
+#![tactic(auto)]
+
 mod encoder;
 mod octets;
 mod outgoing;
