@@ -65,6 +65,7 @@ impl<'a> Elements<'a> {
     }
 }
 
+#[tactic(auto, unfolding(layout::specs::Elements::element_at, layout::specs::Elements::stands))]
 fn element_at<'a>(octets: &'a [u8], at: usize) -> Option<Element<'a>>
     ensures gives { found result ≡ element_at octets.now at }
     ensures common { is_common (found result) ≡ stands octets.now at 1 18 }
