@@ -1,4 +1,3 @@
 pub mod Tail
 pub mod Law
 pub mod First
-pub mod Destinations

@@ -31,6 +31,7 @@ pub fn frame_kind(octets: &[u8]) -> Result<Kind, Refusal>
 }
 
 // Goes on from the version, which is known to be 1.
+#[tactic(auto, using(std::proofs::lemmas::Bool::Decides::nat_tests))]
 fn check_elements(octets: &[u8], destination: Destination) -> Result<Kind, Refusal>
     requires long { 50 ≤ length octets.now }
     requires to { Some destination ≡ destination_of (take 6 (drop 0 octets.now)) }
@@ -70,6 +71,7 @@ fn goes_to(octets: &[u8], destination: Destination, kind: Kind) -> bool
 }
 
 // The kind of frame that begins with the element after the version.
+#[tactic(auto, using(crate::proofs::First::known), unfolding(layout::specs::Elements::element_at, layout::specs::Elements::stands))]
 fn first_kind(octets: &[u8]) -> Option<Kind>
     requires { 50 ≤ length octets.now }
     ensures { Passes result (is_some (kind_of (element_at octets.now 16))) (λ k. KindAt k octets.now) }

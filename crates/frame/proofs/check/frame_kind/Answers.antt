@@ -1,6 +1,0 @@
-use Rattle.std.proofs.Common.{arith}
-use Rattle.std.proofs.lemmas.Bool.Decides.{nat_tests}
-use Rattle.frame.proofs.check.frame_kind.Goals as goal
-
-pub returns-in-default : goal.returns-in-default
-returns-in-default c = grind (arith, nat_tests)
