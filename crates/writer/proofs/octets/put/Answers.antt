@@ -6,4 +6,4 @@ pub returns : goal.returns
 returns c =
     let n = length c.args.octets.now in
     let k : c.args.at + n - c.args.at ≡ n = omega arith in
-    record { place = refl; holds = over_is c.args.at _ c.args.out.now _ _ c.copy-from-slice.ensures.after k }
+    record { place = refl; holds = over_is c.args.at _ c.args.out.now _ _ c.copy_from_slice.ensures.after k }
