@@ -1,6 +1,6 @@
 -- Octets of a list that are known: how stretches join, and what the fields of an element spell.
 use Rattle.std.proofs.Common.{◌≡◌, ℕ, ◌+◌, ◌*◌, ◌/◌, ◌%◌, ◌<◌, ◌≤◌, true, ◌&&◌, eqb, leb, List, [], ◌∷◌, ◌++◌, length, get_or, take, drop, replicate, sym, refl, ap, ◌∙◌, arith}
-use Rattle.std.specs.List.{AllByRecursion as All}
+use Rattle.std.specs.List.{AllByRecursion}
 use Rattle.std.proofs.lemmas.List.{take-append-drop, take-take, drop-drop, drop-take, drop_more}
 use Rattle.std.proofs.ByRecursion.{All-get_or}
 use Rattle.std.proofs.lemmas.Bool.{eqb-true, leb-true, and_parts}
@@ -25,7 +25,7 @@ join {xs} {ys} {zs} {i} {n} {m} p q =
 
 -- all are octets
 abbrev pub Octets : List ℕ → Type 0
-Octets xs = All (λ x. x < 256) xs
+Octets xs = AllByRecursion (λ x. x < 256) xs
 
 octet_at : (xs : List ℕ) (i : ℕ) → Octets xs → i < length xs → get_or xs i 0 < 256
 octet_at xs i a h = All-get_or (λ x. x < 256) xs i 0 h a

@@ -1,6 +1,6 @@
 -- The octets of a frame written out from its fields, and the law that holds every accepted frame to them.
 use Rattle.std.specs.Prelude.{◌≡◌, ℕ, ◌+◌, ◌-◌, ◌/◌, ◌%◌, ◌<◌, List, [], ◌∷◌, ◌++◌, length, replicate}
-use Rattle.std.specs.List.{AllByRecursion as All}
+use Rattle.std.specs.List.{AllByRecursion}
 use Rattle.layout.specs.Fields.{Part}
 use Rattle.layout.specs.Elements.{Element, test, topology_change, link_down, link_up, common, end, none, kind_of, address_at}
 use Rattle.layout.specs.Reading.{Reading, refused, accepted, reading}
@@ -38,4 +38,4 @@ LaidOut xs (accepted s e n d) = (k : ℕ) × (xs ≡ encode s e n d ++ replicate
 
 -- every list of octets that is accepted is laid out so
 abbrev pub AcceptedLaidOut : Type 0
-AcceptedLaidOut = (xs : List ℕ) → All (λ x. x < 256) xs → LaidOut xs (reading xs)
+AcceptedLaidOut = (xs : List ℕ) → AllByRecursion (λ x. x < 256) xs → LaidOut xs (reading xs)
