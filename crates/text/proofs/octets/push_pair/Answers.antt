@@ -3,8 +3,8 @@ use Rattle.text.proofs.octets.push_pair.Goals as goal
 
 pub returns : goal.returns
 returns c =
-    let high = c.in-ok-push.ensures in
-    let low = c.in-ok-push-2.ensures in
+    let high = c.in_ok-push.ensures in
+    let low = c.in_ok-push-2.ensures in
     let h = high.bytes in
     let l = low.bytes in
     let h' = high.ascii c.digit.ensures.ascii in
