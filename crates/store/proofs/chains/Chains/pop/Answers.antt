@@ -11,17 +11,27 @@ bounds-self-place c = head-below c.args.self.now c.args.list c.requires c.if-len
 pub bounds-self-place-2 : goal.bounds-self-place-2
 bounds-self-place-2 c = head-below c.args.self.now c.args.list c.requires c.if-len-eq0.false
 
-pub offset-bounds-self-place : goal.offset-bounds-self-place
-offset-bounds-self-place c = omega (arith, head-below c.args.self.now c.args.list c.requires c.if-len-eq0.false)
+pub offset_bounds-self-place : goal.offset_bounds-self-place
+offset_bounds-self-place c = omega (arith, head-below c.args.self.now c.args.list c.requires c.if-len-eq0.false)
 
-pub invariant-of-self : goal.invariant-of-self
-invariant-of-self c =
+pub invariant_of-self : goal.invariant_of-self
+invariant_of-self c =
     let s = c.args.self.now in
     let q = c.args.list in
     let after = sym (pop-after s q c.requires c.if-len-eq0.false) in
     let once = subst OnceEach after (pop-once (spots s) s.once q c.requires) in
     let ends = subst (λ (x : Spots). EndAt x (λ j. get_or s.tails j 0)) after (pop_ends (spots s) (λ j. get_or s.tails j 0) s.ends q) in
-    (s.nexts, (length-set _ _ _ ∙ s.first, (s.last, (length-set _ _ _ ∙ s.many, (length-set _ _ _ ∙ s.hands, (once, (ends, (pop-total s q c.requires c.if-len-eq0.false, (pop-counted s q c.requires c.if-len-eq0.false, tt)))))))))
+    record {
+      nexts = s.nexts;
+      first = length-set _ _ _ ∙ s.first;
+      last = s.last;
+      many = length-set _ _ _ ∙ s.many;
+      hands = length-set _ _ _ ∙ s.hands;
+      once = once;
+      ends = ends;
+      all = pop-total s q c.requires c.if-len-eq0.false;
+      counted = pop-counted s q c.requires c.if-len-eq0.false;
+    }
 
 pub returns : goal.returns
 returns c =

@@ -9,17 +9,17 @@ use Rattle.store.proofs.chains.Chains.push.Goals.{then-len-eq0, else-len-eq0}
 pub bounds-self-self : goal.bounds-self-self
 bounds-self-self c = tail-below c.args.self.now c.args.list c.requires.0 c.if-len-eq0.false
 
-pub offset-bounds-self-self : goal.offset-bounds-self-self
-offset-bounds-self-self c = omega (arith, tail-below c.args.self.now c.args.list c.requires.0 c.if-len-eq0.false)
+pub offset_bounds-self-self : goal.offset_bounds-self-self
+offset_bounds-self-self c = omega (arith, tail-below c.args.self.now c.args.list c.requires.0 c.if-len-eq0.false)
 
-pub overflow-add-self : goal.overflow-add-self
-overflow-add-self c = omega (arith, push-few c.args.self.now c.args.list c.args.place c.requires.0 c.requires.1)
+pub overflow_add-self : goal.overflow_add-self
+overflow_add-self c = omega (arith, push-few c.args.self.now c.args.list c.args.place c.requires.0 c.requires.1)
 
 pub bounds-self-place : goal.bounds-self-place
 bounds-self-place c = held_below c.args.self.now c.args.place c.requires.1
 
-pub invariant-of-self : goal.invariant-of-self
-invariant-of-self c =
+pub invariant_of-self : goal.invariant_of-self
+invariant_of-self c =
     let s = c.args.self.now in
     let q = c.args.list in
     let p = c.args.place in
@@ -30,7 +30,17 @@ invariant-of-self c =
     let sizes = way-lengths s q p c.requires.0 c.requires.1 n h way in
     let once = subst OnceEach after (push-once (spots s) s.once q p c.requires.0 c.requires.1) in
     let ends = subst (λ (x : Spots). EndAt x (λ j. get_or (set s.tails q p) j 0)) after (push-ends-at s q p c.requires.0 c.requires.1) in
-    (sizes.0, (sizes.1, (length-set _ _ _ ∙ s.last, (length-set _ _ _ ∙ s.many, (length-set _ _ _ ∙ s.hands, (once, (ends, (push-total s q p c.requires.0 c.requires.1, (push-counted s q p c.requires.0 c.requires.1, tt)))))))))
+    record {
+      nexts = sizes.0;
+      first = sizes.1;
+      last = length-set _ _ _ ∙ s.last;
+      many = length-set _ _ _ ∙ s.many;
+      hands = length-set _ _ _ ∙ s.hands;
+      once = once;
+      ends = ends;
+      all = push-total s q p c.requires.0 c.requires.1;
+      counted = push-counted s q p c.requires.0 c.requires.1;
+    }
 
 pub returns : goal.returns
 returns c =

@@ -4,14 +4,14 @@ use Rattle.store.proofs.Calls.{hands-held}
 use Rattle.store.proofs.Reach.{all-somewhere}
 use Rattle.store.proofs.store.Store.anything_waits.Goals as goal
 
-pub overflow-add-result : goal.overflow-add-result
-overflow-add-result c = let s = c.args.self.now in omega (arith, c.free.ensures.answer, c.in-hand.ensures, hands-held s, all-somewhere s)
+pub overflow_add-result : goal.overflow_add-result
+overflow_add-result c = let s = c.args.self.now in omega (arith, c.free.ensures.answer, c.in_hand.ensures, hands-held s, all-somewhere s)
 
 pub returns : goal.returns
 returns c =
     let s = c.args.self.now in
     let free = c.free.ensures.answer in
-    let hands = c.in-hand.ensures in
+    let hands = c.in_hand.ensures in
     let same = hands-held s in
     let all = all-somewhere s in
     grind (arith, nat_tests)

@@ -6,11 +6,11 @@ use Rattle.store.proofs.Reach.{reached-next}
 use Rattle.store.proofs.Taken as taken
 use Rattle.store.proofs.store.Store.drop_frame.Goals as goal
 
-pub invariant-of-self : goal.invariant-of-self
-invariant-of-self c =
+pub invariant_of-self : goal.invariant_of-self
+invariant_of-self c =
     let s = c.args.self.now in
     let after = spent s c.args.frame (sym c.if-not-holds.ensures) c.push.new.self c.push.ensures in
-    (s.few, (s.whole, (reached-next s (spends c.args.frame) (turned s c.push.new.self s.frames) tt after, tt)))
+    record { few = s.few; whole = s.whole; reached = reached-next s (spends c.args.frame) (turned s c.push.new.self s.frames) tt after }
 
 pub returns : goal.returns
 returns c =

@@ -10,8 +10,8 @@ listed c = let s = c.args.self.now in omega (arith, s.whole, place-below s c.arg
 pub bounds-self-frame : goal.bounds-self-frame
 bounds-self-frame c = place-below c.args.self.now c.args.frame.now (sym c.if-not-holds.ensures)
 
-pub offset-bounds-self-frame : goal.offset-bounds-self-frame
-offset-bounds-self-frame c = omega (arith, place-below c.args.self.now c.args.frame.now (sym c.if-not-holds.ensures))
+pub offset_bounds-self-frame : goal.offset_bounds-self-frame
+offset_bounds-self-frame c = omega (arith, place-below c.args.self.now c.args.frame.now (sym c.if-not-holds.ensures))
 
 pub returns : goal.returns
 returns c =

@@ -4,11 +4,11 @@ use Rattle.store.proofs.Calls.{turned, passed, pass-answer}
 use Rattle.store.proofs.Reach.{reached-next}
 use Rattle.store.proofs.store.Store.pass_on.Goals as goal
 
-pub invariant-of-self : goal.invariant-of-self
-invariant-of-self c =
+pub invariant_of-self : goal.invariant_of-self
+invariant_of-self c =
     let s = c.args.self.now in
     let after = passed s c.args.link c.args.direction c.in-Ok.lane c.in-Ok.ensures c.args.frame (sym c.if-not-holds.ensures) c.push.new.self c.push.ensures in
-    (s.few, (s.whole, (reached-next s (passes c.args.frame c.args.link c.args.direction) (turned s c.push.new.self s.frames) tt after, tt)))
+    record { few = s.few; whole = s.whole; reached = reached-next s (passes c.args.frame c.args.link c.args.direction) (turned s c.push.new.self s.frames) tt after }
 
 pub returns : goal.returns
 returns c =

@@ -7,20 +7,20 @@ use Rattle.store.proofs.Reach.{reached-next}
 use Rattle.store.proofs.Taken.{taken-held}
 use Rattle.store.proofs.store.Store.take.Goals as goal
 
-pub invariant-of-self : goal.invariant-of-self
-invariant-of-self c =
+pub invariant_of-self : goal.invariant_of-self
+invariant_of-self c =
     let s = c.args.self.now in
-    let after = take-any s c.args.link c.args.direction c.in-ok-lane.lane c.in-ok-lane.ensures c.pop.new.self c.pop.ensures.after in
-    (s.few, (s.whole, (reached-next s (takes c.args.link c.args.direction) (turned s c.pop.new.self s.frames) tt after, tt)))
+    let after = take-any s c.args.link c.args.direction c.in_ok-lane.lane c.in_ok-lane.ensures c.pop.new.self c.pop.ensures.after in
+    record { few = s.few; whole = s.whole; reached = reached-next s (takes c.args.link c.args.direction) (turned s c.pop.new.self s.frames) tt after }
 
-pub returns-in-default : goal.returns-in-default
-returns-in-default c =
+pub returns-in_default : goal.returns-in_default
+returns-in_default c =
     let s = c.args.self.now in
-    let r = take_none s c.args.link c.args.direction c.in-ok-lane.lane c.in-ok-lane.ensures c.pop.new.self c.in-default.ensures.after c.in-default.ensures.answer in
+    let r = take_none s c.args.link c.args.direction c.in_ok-lane.lane c.in_ok-lane.ensures c.pop.new.self c.in_default.ensures.after c.in_default.ensures.answer in
     record { answer = r.0; after = r.1; held = tt }
 
 pub returns : goal.returns
 returns c =
     let s = c.args.self.now in
-    let r = take-some s c.args.link c.args.direction c.in-ok-lane.lane c.in-ok-lane.ensures c.pop.new.self c.in-Some.ensures.after c.in-Some.place c.in-Some.ensures.answer in
+    let r = take-some s c.args.link c.args.direction c.in_ok-lane.lane c.in_ok-lane.ensures c.pop.new.self c.in-Some.ensures.after c.in-Some.place c.in-Some.ensures.answer in
     record { answer = r.0; after = r.1; held = ap (in_hand (record { store = s.number; place = c.in-Some.place })) r.1 ∙ taken-held c.args.link c.args.direction (model s) (record { store = s.number; place = c.in-Some.place }) r.0 }
