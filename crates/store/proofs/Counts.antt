@@ -9,7 +9,7 @@ use Rattle.store.specs.declared.hand.Put.TheVariants.{Waits, Lost}
 use Rattle.store.specs.Counting.{change, change2, count, one, sum_to}
 use Rattle.store.specs.Model.{Queued, queued, Model, fresh, is_link, wrong_length, put_answer, put_goes, put_in, places, FreeAt, taken_as, in_hand, passed_as, freed, over_queues, waiting_in}
 use Rattle.store.specs.Laws.{Call, puts, takes, passes, spends, step, run, Fits, Allowed, hands_to, in_hands, AllPlaces, NoneTwice, FindsRoom}
-use Rattle.store.proofs.Standing.{sum_same, sum_change, one_le, count_push, change_here, change_there}
+use Rattle.store.proofs.Standing.{one_few, sum_none, sum_change, one_le, count_push, change_here, change_there}
 
 -- all queues weighed, one of them changed
 queue_sum : (n : ℕ) (w : List Queued → ℕ) (l d : ℕ) (v : List Queued) (q : ℕ → ℕ → List Queued) → l < n → d < 2 → over_queues n w (change2 l d v q) + w (q l d) ≡ over_queues n w q + w v
@@ -53,13 +53,9 @@ pub record Sound (top n : ℕ) (m : Model) : Type 0 where
   pub once : (p : ℕ) → stands n m p ≤ one (ltb p top)
   pub all : waits n m + hands_to top m + m.free ≡ top
 
-one_few : (b : Bool) → one b ≤ 1
-one_few true = omega arith
-one_few false = omega arith
-
 module _ (top n : ℕ) (m : Model) (s : Sound top n m) where
-  put-sound : (l d p : ℕ) (o : List ℕ) → l < n → d < 2 → 0 < m.free → p < top → m.hands p ≡ None → ((i j : ℕ) → count p (places (m.queues i j)) ≡ 0) → Sound top n (put_in l d p o m)
-  put-sound l d p o a b f c un fr = record {
+  put_sound : (l d p : ℕ) (o : List ℕ) → l < n → d < 2 → 0 < m.free → p < top → m.hands p ≡ None → ((i j : ℕ) → count p (places (m.queues i j)) ≡ 0) → Sound top n (put_in l d p o m)
+  put_sound l d p o a b f c un fr = record {
     links = s.links;
     once = λ x. stands_at x;
     all = omega (arith, s.all, queue_sum n (λ hs. length hs) l d (m.queues l d ++ queued p o ∷ []) m.queues a b, length_push (m.queues l d) (queued p o));
@@ -71,8 +67,8 @@ module _ (top n : ℕ) (m : Model) (s : Sound top n m) where
           let g = count_held x (m.queues l d) (queued p o) in
           elim (cases_eq p x) [ inl e ↦ (let z : over_queues n (λ hs. count x (places hs)) m.queues ≡ 0 = queue_none n (λ hs. count x (places hs)) m.queues (λ i j. subst (λ y. count y (places (m.queues i j)) ≡ 0) e (fr i j)) in let y : one (is_some (m.hands x)) ≡ 0 = subst (λ t. one (is_some (m.hands t)) ≡ 0) e (ap (λ (t : Option (List ℕ)). one (is_some t)) un) in let v : one (eqb p x) ≤ 1 = one_few (eqb p x) in let u : one (ltb x top) ≡ 1 = grind (arith, nat_tests) in omega arith) | inr ne ↦ (let v : one (eqb p x) ≡ 0 = grind (arith, nat_tests) in let r = s.once x in omega arith) ]
 
-  take-sound : (l d : ℕ) (x : Queued) (xs : List Queued) → l < n → d < 2 → m.queues l d ≡ x ∷ xs → Sound top n (taken_as l d (x ∷ xs) m)
-  take-sound l d x xs a b e = record {
+  take_sound : (l d : ℕ) (x : Queued) (xs : List Queued) → l < n → d < 2 → m.queues l d ≡ x ∷ xs → Sound top n (taken_as l d (x ∷ xs) m)
+  take_sound l d x xs a b e = record {
     links = s.links;
     once = stands_at;
     all = omega (arith, s.all, queue_sum n (λ hs. length hs) l d xs m.queues a b, ap (λ (hs : List Queued). length hs) e, hand_sum top x.place (Some x.octets) m m.hands below, unheld);
@@ -99,14 +95,14 @@ module _ (top n : ℕ) (m : Model) (s : Sound top n m) where
           elim (cases_eq y x.place) [ inl e ↦ (let h : one (is_some (change x.place (Some x.octets) m.hands y)) ≤ 1 = one_few (is_some (change x.place (Some x.octets) m.hands y)) in let i : one (eqb x.place y) ≡ 1 = grind (arith, nat_tests) in let u : one (is_some (m.hands y)) ≡ 0 = subst (λ t. one (is_some (m.hands t)) ≡ 0) (sym e) unheld in omega arith) | inr ne ↦ (let h : one (is_some (change x.place (Some x.octets) m.hands y)) ≡ one (is_some (m.hands y)) = ap (λ (t : Option (List ℕ)). one (is_some t)) (change_there x.place y (Some x.octets) m.hands ne) in omega arith) ]
 
   -- a frame in hand has a place below 128
-  hand-below : (p : ℕ) → one (is_some (m.hands p)) ≡ 1 → p < top
-  hand-below p e = let r = s.once p in grind (arith, nat_tests)
+  hand_below : (p : ℕ) → one (is_some (m.hands p)) ≡ 1 → p < top
+  hand_below p e = let r = s.once p in grind (arith, nat_tests)
 
-  pass-sound : (l d p : ℕ) (o : List ℕ) → l < n → d < 2 → m.hands p ≡ Some o → Sound top n (passed_as l d p (Some o) m)
-  pass-sound l d p o a b e = record {
+  pass_sound : (l d p : ℕ) (o : List ℕ) → l < n → d < 2 → m.hands p ≡ Some o → Sound top n (passed_as l d p (Some o) m)
+  pass_sound l d p o a b e = record {
     links = s.links;
     once = stands_at;
-    all = omega (arith, s.all, queue_sum n (λ hs. length hs) l d (m.queues l d ++ queued p o ∷ []) m.queues a b, length_push (m.queues l d) (queued p o), hand_sum top p None m m.hands (hand-below p inside), inside);
+    all = omega (arith, s.all, queue_sum n (λ hs. length hs) l d (m.queues l d ++ queued p o ∷ []) m.queues a b, length_push (m.queues l d) (queued p o), hand_sum top p None m m.hands (hand_below p inside), inside);
   }
     where
       inside : one (is_some (m.hands p)) ≡ 1
@@ -119,16 +115,12 @@ module _ (top n : ℕ) (m : Model) (s : Sound top n m) where
           let r = s.once y in
           elim (cases_eq y p) [ inl e ↦ (let h : one (is_some (change p None m.hands y)) ≡ 0 = subst (λ t. one (is_some (change p None m.hands t)) ≡ 0) (sym e) (ap (λ (t : Option (List ℕ)). one (is_some t)) (change_here p None m.hands)) in let u : one (is_some (m.hands y)) ≡ 1 = subst (λ t. one (is_some (m.hands t)) ≡ 1) (sym e) inside in let v = one_few (eqb p y) in omega arith) | inr ne ↦ (let h : one (is_some (change p None m.hands y)) ≡ one (is_some (m.hands y)) = ap (λ (t : Option (List ℕ)). one (is_some t)) (change_there p y None m.hands ne) in let v : one (eqb p y) ≡ 0 = grind (arith, nat_tests) in omega arith) ]
 
-  end-sound : (p : ℕ) → one (is_some (m.hands p)) ≡ 1 → Sound top n (freed p m)
-  end-sound p e = record {
+  end_sound : (p : ℕ) → one (is_some (m.hands p)) ≡ 1 → Sound top n (freed p m)
+  end_sound p e = record {
     links = s.links;
     once = λ y. (let r = s.once y in elim (cases_eq y p) [ inl d ↦ (let h : one (is_some (change p None m.hands y)) ≡ 0 = subst (λ t. one (is_some (change p None m.hands t)) ≡ 0) (sym d) (ap (λ (t : Option (List ℕ)). one (is_some t)) (change_here p None m.hands)) in omega arith) | inr ne ↦ (let h : one (is_some (change p None m.hands y)) ≡ one (is_some (m.hands y)) = ap (λ (t : Option (List ℕ)). one (is_some t)) (change_there p y None m.hands ne) in omega arith) ]);
-    all = omega (arith, s.all, hand_sum top p None m m.hands (hand-below p e), e);
+    all = omega (arith, s.all, hand_sum top p None m m.hands (hand_below p e), e);
   }
-
-sum_none : (n : ℕ) → sum_to n (λ _. 0) ≡ 0
-sum_none zero = refl
-sum_none (suc n) = omega (arith, sum_none n)
 
 pub fresh_sound : (top k n : ℕ) → Sound top n (record { number = k; links = n; free = top; queues = λ _ _. []; hands = λ _. None })
 fresh_sound top k n = record {
@@ -149,7 +141,7 @@ step_sound n (puts l d o p) m s fits = cond_both (put_goes l d o m) (put_in l d 
         let a : l < n = grind (arith, nat_tests) in
         let b : d < 2 = grind (arith, nat_tests) in
         let z : 0 < m.free = grind (arith, nat_tests) in
-        put-sound 128 n m s l d p o a b z f.below f.unheld f.unqueued
+        put_sound 128 n m s l d p o a b z f.below f.unheld f.unqueued
 step_sound n (takes l d) m s fits = cond_both (is_link l d m) (taken_as l d (m.queues l d) m) m (λ x. Sound 128 n x) (λ e. go e (m.queues l d) refl) (λ e. s)
   where
     go : is_link l d m ≡ true → (xs : List Queued) → m.queues l d ≡ xs → Sound 128 n (taken_as l d xs m)
@@ -158,7 +150,7 @@ step_sound n (takes l d) m s fits = cond_both (is_link l d m) (taken_as l d (m.q
         let k = s.links in
         let a : l < n = grind (arith, nat_tests) in
         let b : d < 2 = grind (arith, nat_tests) in
-        take-sound 128 n m s l d x xs a b q
+        take_sound 128 n m s l d x xs a b q
 step_sound n (passes t l d) m s fits = cond_both (is_link l d m && in_hand t m) (passed_as l d t.place (m.hands t.place) m) m (λ x. Sound 128 n x) (λ e. go e (m.hands t.place) refl) (λ e. s)
   where
     go : (is_link l d m && in_hand t m) ≡ true → (o : Option (List ℕ)) → m.hands t.place ≡ o → Sound 128 n (passed_as l d t.place o m)
@@ -167,8 +159,8 @@ step_sound n (passes t l d) m s fits = cond_both (is_link l d m && in_hand t m) 
         let k = s.links in
         let a : l < n = grind (arith, nat_tests) in
         let b : d < 2 = grind (arith, nat_tests) in
-        pass-sound 128 n m s l d t.place o a b q
-step_sound n (spends t) m s fits = cond_both (in_hand t m) (freed t.place m) m (λ x. Sound 128 n x) (λ e. end-sound 128 n m s t.place (in_hand_one t m e)) (λ e. s)
+        pass_sound 128 n m s l d t.place o a b q
+step_sound n (spends t) m s fits = cond_both (in_hand t m) (freed t.place m) m (λ x. Sound 128 n x) (λ e. end_sound 128 n m s t.place (in_hand_one t m e)) (λ e. s)
 
 pub run_sound : (k n : ℕ) (h : List Call) → Allowed k n h → Sound 128 n (run k n h)
 run_sound k n [] ok = fresh_sound 128 k n

@@ -40,12 +40,12 @@ take_load_lem l d m = go (is_link l d m) (m.queues l d)
 
 -- a frame in hand with the octets o
 module _ (t : InHand) (o : List ℕ) (m : Model) (i : in_hand t m ≡ true) where
-  pub pass-load : (l d : ℕ) → m.hands t.place ≡ Some o → load_of (pass_after t l d m) ≡ pass_load l d o (load_of m)
-  pass-load l d e = rw (i, e) (go (is_link l d m))
+  pub pass_load_lem : (l d : ℕ) → m.hands t.place ≡ Some o → load_of (pass_after t l d m) ≡ pass_load l d o (load_of m)
+  pass_load_lem l d e = rw (i, e) (go (is_link l d m))
     where
       go : (b : Bool) → load_of (cond (b && true) (passed_as l d t.place (Some o) m) m) ≡ cond b (joins l d o m.free (load_of m)) (load_of m)
       go true = joined l d m.free t.place o m
       go false = refl
 
-  pub spend-load : load_of (spend_after t m) ≡ spend_load (load_of m)
-  spend-load = rw i
+  pub spend_load_lem : load_of (spend_after t m) ≡ spend_load (load_of m)
+  spend_load_lem = rw i

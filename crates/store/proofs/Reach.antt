@@ -13,17 +13,17 @@ pub reached_new : (k n : ℕ) (m : Model) → m ≡ fresh k n → Reached k n m
 reached_new k n m e = ∣ ([], (tt, sym e)) ∣₁
 
 module _ (s : Store) where
-  pub reached-next : (c : Call) (after : Model) → Fits c (model s) → after ≡ step c (model s) → Reached s.number s.links after
-  reached-next c after f e = ∥∥₁_map s.reached (λ w. (c ∷ w.0, ((subst (λ (x : Model). Fits c x) (sym w.1.1) f, w.1.0), ap (step c) w.1.1 ∙ sym e)))
+  pub reached_next : (c : Call) (after : Model) → Fits c (model s) → after ≡ step c (model s) → Reached s.number s.links after
+  reached_next c after f e = ∥∥₁_map s.reached (λ w. (c ∷ w.0, ((subst (λ (x : Model). Fits c x) (sym w.1.1) f, w.1.0), ap (step c) w.1.1 ∙ sym e)))
 
-  pub reached-put : (l d : ℕ) (o : List ℕ) (after : Model) → ((p : ℕ) × PutInto l d o (model s) after p) → Reached s.number s.links after
-  reached-put l d o after (p, i) = reached-next (puts l d o p) after i.was_free i.after
+  pub reached_put : (l d : ℕ) (o : List ℕ) (after : Model) → ((p : ℕ) × PutInto l d o (model s) after p) → Reached s.number s.links after
+  reached_put l d o after (p, i) = reached_next (puts l d o p) after i.was_free i.after
 
-  pub once-each : (p : ℕ) → stands_in (model s) p ≤ one (ltb p 128)
-  once-each p = ∥∥₁_elim s.reached le_prop (λ w. subst (λ (x : Model). stands_in x p ≤ one (ltb p 128)) w.1.1 (none_twice s.number s.links w.0 w.1.0 p))
+  pub once_each : (p : ℕ) → stands_in (model s) p ≤ one (ltb p 128)
+  once_each p = ∥∥₁_elim s.reached le_prop (λ w. subst (λ (x : Model). stands_in x p ≤ one (ltb p 128)) w.1.1 (none_twice s.number s.links w.0 w.1.0 p))
 
-  pub all-somewhere : waiting_in (model s) + in_hands (model s) + (model s).free ≡ 128
-  all-somewhere =
+  pub all_somewhere : waiting_in (model s) + in_hands (model s) + (model s).free ≡ 128
+  all_somewhere =
       let low : waiting_in (model s) + in_hands (model s) + (model s).free ≤ 128 = ∥∥₁_elim s.reached le_prop (λ w. (let a = all w in omega arith)) in
       let high : 128 ≤ waiting_in (model s) + in_hands (model s) + (model s).free = ∥∥₁_elim s.reached le_prop (λ w. (let a = all w in omega arith)) in
       omega arith

@@ -11,6 +11,13 @@ change_here k a f = grind (arith, nat_tests)
 pub change_there : {A : Type 0} (k j : ℕ) (a : A) (f : ℕ → A) → j ≢ k → change k a f j ≡ f j
 change_there k j a f ne = grind (arith, nat_tests)
 
+pub one_few : (b : Bool) → one b ≤ 1
+one_few b = grind (arith, nat_tests)
+
+pub sum_none : (n : ℕ) → sum_to n (λ _. 0) ≡ 0
+sum_none zero = refl
+sum_none (suc n) = omega (arith, sum_none n)
+
 pub sum_same : (n : ℕ) (f g : ℕ → ℕ) → ((j : ℕ) → j < n → f j ≡ g j) → sum_to n f ≡ sum_to n g
 sum_same zero f g h = refl
 sum_same (suc n) f g h = omega (arith, h n (omega arith), sum_same n f g (λ j less. h j (omega arith)))
@@ -62,15 +69,15 @@ module _ (s : Spots) (once : OnceEach s) where
   unfolding standing
   apart q j p ne l m = apart_in 101 s q j p (one (ltb p 128)) ne l m (once p)
 
-  pub pop-once : (q : ℕ) → q < 101 → OnceEach (popped q s)
-  pop-once q l = go (s.lanes q) refl
+  pub pop_once : (q : ℕ) → q < 101 → OnceEach (popped q s)
+  pop_once q l = go (s.lanes q) refl
     where
       go : (xs : List ℕ) → s.lanes q ≡ xs → OnceEach (popped_as q xs s)
       go [] e = once
       go (x ∷ xs) e = λ p. moved s q xs (change x true s.hand) p l (let w = within q p l in let c = ap (count p) e in grind (arith, nat_tests)) ∙ once p
 
-  pub push-once : (q p : ℕ) → q < 101 → s.hand p ≡ true → OnceEach (pushed q p s)
-  push-once q p l h = λ x. moved s q (s.lanes q ++ p ∷ []) (change p false s.hand) x l (let w = within q x l in let c = count_push p x (s.lanes q) in grind (arith, nat_tests)) ∙ once x
+  pub push_once : (q p : ℕ) → q < 101 → s.hand p ≡ true → OnceEach (pushed q p s)
+  push_once q p l h = λ x. moved s q (s.lanes q ++ p ∷ []) (change p false s.hand) x l (let w = within q x l in let c = count_push p x (s.lanes q) in grind (arith, nat_tests)) ∙ once x
 
 pub pop_ends : (s : Spots) (ts : ℕ → ℕ) → EndAt s ts → (q : ℕ) → EndAt (popped q s) ts
 pop_ends s ts ends q = go (s.lanes q) refl

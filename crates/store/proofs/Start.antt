@@ -5,7 +5,7 @@ use Rattle.std.proofs.lemmas.Bool.Decides.{nat_tests}
 use Rattle.std.proofs.lemmas.Bool.{cases_eq, cases_lt}
 use Rattle.store.specs.Chains.{chain, list_of, last_or, Spots, standing, standing_in, OnceEach, EndAt, spots_of, Once, Ends, total, up_from, every_place, all_free}
 use Rattle.store.specs.Counting.{change, count, one, sum_to}
-use Rattle.store.proofs.Standing.{sum_same, sum_change, change_here, change_there}
+use Rattle.store.proofs.Standing.{sum_none, sum_change, change_here, change_there}
 use Rattle.store.proofs.Moves.{spots_same}
 
 count_up : (p h k : ℕ) → count p (up_from h k) ≡ cond (ltb p h) 0 (one (ltb p (h + k)))
@@ -19,10 +19,6 @@ last_up t h (suc k) = omega (arith, last_up h (h + 1) k)
 pub chain_up : (next : List ℕ) (n h k : ℕ) → ((i : ℕ) → i < n → get_or next i 0 ≡ i + 1) → h + k ≤ n → chain next h (suc k) ≡ up_from h (suc k)
 chain_up next n h zero e l = refl
 chain_up next n h (suc k) e l = ap (λ (xs : List ℕ). h ∷ xs) (rw (e h (omega arith)) (chain_up next n (h + 1) k e (omega arith)))
-
-sum_none : (n : ℕ) → sum_to n (λ _. 0) ≡ 0
-sum_none zero = refl
-sum_none (suc n) = omega (arith, sum_none n)
 
 start_in : (n p k : ℕ) (xs : List ℕ) → 0 < n → count p xs ≡ k → standing_in n (record { lanes = change 0 xs (λ _. []); hand = λ _. false }) p ≡ k
 start_in n p k xs l e = omega (arith, sum_change n 0 (λ q. count p (change 0 xs (λ _. []) q)) (λ _. 0) (λ j ne. go j ne) l, sum_none n)
@@ -43,15 +39,15 @@ get_or-same (suc n) zero a = refl
 get_or-same (suc n) (suc j) a = get_or-same n j a
 
 module _ (next : List ℕ) (up : (i : ℕ) → i < 127 → get_or next i 0 ≡ i + 1) where
-  pub start-list : (j : ℕ) → list_of next (replicate 101 0) (set (replicate 101 0) 0 128) j ≡ change 0 every_place (λ _. []) j
+  pub start_list : (j : ℕ) → list_of next (replicate 101 0) (set (replicate 101 0) 0 128) j ≡ change 0 every_place (λ _. []) j
   unfolding every_place
-  start-list zero = chain_up next 127 0 127 up (omega arith)
-  start-list (suc j) = rw (get_or-same {A = ℕ} 100 j 0, change_there 0 (suc j) (up_from 0 128) (λ _. []) (λ d. absurd (omega arith)))
+  start_list zero = chain_up next 127 0 127 up (omega arith)
+  start_list (suc j) = rw (get_or-same {A = ℕ} 100 j 0, change_there 0 (suc j) (up_from 0 128) (λ _. []) (λ d. absurd (omega arith)))
 
-  pub start-after : spots_of next (replicate 101 0) (set (replicate 101 0) 0 128) (replicate 128 false) ≡ all_free
-  start-after = spots_same _ _ _ _ start-list (λ j. get_or-same 128 j false)
+  pub start_after : spots_of next (replicate 101 0) (set (replicate 101 0) 0 128) (replicate 128 false) ≡ all_free
+  start_after = spots_same _ _ _ _ start_list (λ j. get_or-same 128 j false)
 
-  pub start-ends : EndAt all_free (λ q. get_or (set (replicate 101 0) 0 127) q 0)
+  pub start_ends : EndAt all_free (λ q. get_or (set (replicate 101 0) 0 127) q 0)
   unfolding every_place
-  start-ends zero = last_up 0 0 127
-  start-ends (suc j) = rw (get_or-same {A = ℕ} 100 j 0, change_there 0 (suc j) (up_from 0 128) (λ _. []) (λ d. absurd (omega arith)))
+  start_ends zero = last_up 0 0 127
+  start_ends (suc j) = rw (get_or-same {A = ℕ} 100 j 0, change_there 0 (suc j) (up_from 0 128) (λ _. []) (λ d. absurd (omega arith)))

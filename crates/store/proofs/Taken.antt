@@ -6,7 +6,7 @@ use Rattle.std.proofs.lemmas.Bool.{eq-eqb}
 use Rattle.store.specs.declared.hand.InHand.{InHand}
 use Rattle.store.specs.Laws.{listed, first_in}
 use Rattle.store.specs.Model.{Model, Queued, is_link, on_link, refuses, handed_back, token_of, take_answer, take_after, taken_as, in_hand, pass_answer, spend_answer, put_goes, put_in, put_after}
-use Rattle.store.proofs.Lanes.{ok_err, there, on-link, is-link}
+use Rattle.store.proofs.Lanes.{ok_err, there, on_link_lem, is_link_lem}
 use Rattle.store.proofs.Standing.{change_here}
 
 abbrev store_of : Result InHand Refusal → ℕ
@@ -19,11 +19,11 @@ place_of (Err r) = 0
 
 module _ (l d : ℕ) (m : Model) (t : InHand) (e : Ok t ≡ take_answer l d m) where
   -- the link and the direction from which it was taken are there
-  pub taken-there : (l < m.links) × (d < 2) × (Ok t ≡ token_of m.number (m.queues l d))
-  taken-there = there m.links l d t (token_of m.number (m.queues l d)) e
+  pub taken_there : (l < m.links) × (d < 2) × (Ok t ≡ token_of m.number (m.queues l d))
+  taken_there = there m.links l d t (token_of m.number (m.queues l d)) e
 
-  pub taken-held : in_hand t (take_after l d m) ≡ true
-  taken-held = rw (is-link m.links l d taken-there.0 taken-there.1) (go (m.queues l d) taken-there.2)
+  pub taken_held : in_hand t (take_after l d m) ≡ true
+  taken_held = rw (is_link_lem m.links l d taken_there.0 taken_there.1) (go (m.queues l d) taken_there.2)
     where
       go : (hs : List Queued) → Ok t ≡ token_of m.number hs → in_hand t (taken_as l d hs m) ≡ true
       go [] f = absurd (ok_err t NothingWaits f)
@@ -33,8 +33,8 @@ module _ (l d : ℕ) (m : Model) (t : InHand) (e : Ok t ≡ take_answer l d m) w
           rw (k, p, eq-eqb m.number m.number refl, change_here h.place (Some h.octets) m.hands)
 
   -- and its octets are those of the first frame of the queue
-  pub taken-octets : listed ((take_after l d m).hands t.place) ≡ first_in (m.queues l d)
-  taken-octets = rw (is-link m.links l d taken-there.0 taken-there.1) (go (m.queues l d) taken-there.2)
+  pub taken_octets : listed ((take_after l d m).hands t.place) ≡ first_in (m.queues l d)
+  taken_octets = rw (is_link_lem m.links l d taken_there.0 taken_there.1) (go (m.queues l d) taken_there.2)
     where
       go : (hs : List Queued) → Ok t ≡ token_of m.number hs → listed ((taken_as l d hs m).hands t.place) ≡ first_in hs
       go [] f = absurd (ok_err t NothingWaits f)
@@ -54,7 +54,7 @@ module _ (t : InHand) (m : Model) (i : in_hand t m ≡ true) where
   spent = rw i
 
   pub passed : (l d : ℕ) → l < m.links → d < 2 → pass_answer t l d m ≡ Ok tt
-  passed l d a b = ap (handed_back t) (on-link m.links l d a b (refuses (not (in_hand t m)) NotInHand (Ok tt))) ∙ spent
+  passed l d a b = ap (handed_back t) (on_link_lem m.links l d a b (refuses (not (in_hand t m)) NotInHand (Ok tt))) ∙ spent
 
 -- a put changes nothing in hand
 pub put_keeps : (l d : ℕ) (o : List ℕ) (p : ℕ) (t : InHand) (m : Model) → in_hand t (put_after l d o p m) ≡ in_hand t m

@@ -76,37 +76,37 @@ module _ (k n : ℕ) (s : Spots) (fs : List Frame) (once : OnceEach s) (past : B
     pub x_below : x < 128
     x_below = let a = there in let b = within s once q x l in grind (arith, nat_tests)
 
-    pub x-unheld : s.hand x ≡ false
-    x-unheld = let a = there in let b = within s once q x l in let c : one (ltb x 128) ≤ 1 = grind (arith, nat_tests) in go (s.hand x) (omega arith)
+    pub x_unheld : s.hand x ≡ false
+    x_unheld = let a = there in let b = within s once q x l in let c : one (ltb x 128) ≤ 1 = grind (arith, nat_tests) in go (s.hand x) (omega arith)
       where
         go : (b : Bool) → one b ≡ 0 → b ≡ false
         go true z = absurd (omega arith)
         go false z = refl
 
-    pub x-apart : (j : ℕ) → j ≢ q → count x (s.lanes j) ≡ 0
-    x-apart j ne = elim (cases_lt j 101) [ inl m ↦ (let a = there in let b = apart s once q j x ne l m in let c : one (ltb x 128) ≤ 1 = grind (arith, nat_tests) in omega arith) | inr m ↦ rw (past j m) ]
+    pub x_apart : (j : ℕ) → j ≢ q → count x (s.lanes j) ≡ 0
+    x_apart j ne = elim (cases_lt j 101) [ inl m ↦ (let a = there in let b = apart s once q j x ne l m in let c : one (ltb x 128) ≤ 1 = grind (arith, nat_tests) in omega arith) | inr m ↦ rw (past j m) ]
 
-  pub free-at : (x : ℕ) (xs : List ℕ) → s.lanes 0 ≡ x ∷ xs → FreeAt x (model_of k n s fs)
-  free-at x xs e = record {
+  pub free_at : (x : ℕ) (xs : List ℕ) → s.lanes 0 ≡ x ∷ xs → FreeAt x (model_of k n s fs)
+  free_at x xs e = record {
     below = x_below 0 x xs (omega arith) e;
-    unheld = rw (x-unheld 0 x xs (omega arith) e);
+    unheld = rw (x_unheld 0 x xs (omega arith) e);
     unqueued = λ l d. go l d (ltb d 2);
   }
     where
       go : (l d : ℕ) (b : Bool) → count x (places (cond b (map (queued_at fs) (s.lanes (lane l d))) [])) ≡ 0
-      go l d true = rw (places_held fs (s.lanes (lane l d))) (x-apart 0 x xs (omega arith) e (lane l d) (omega arith))
+      go l d true = rw (places_held fs (s.lanes (lane l d))) (x_apart 0 x xs (omega arith) e (lane l d) (omega arith))
       go l d false = refl
 
-  change2-same : (l d : ℕ) (a b : List Queued) (q r : ℕ → ℕ → List Queued) (i j : ℕ) → a ≡ b → q i j ≡ r i j → change2 l d a q i j ≡ change2 l d b r i j
-  change2-same l d a b q r i j e f = ap (λ x. cond (eqb l i && eqb d j) x (q i j)) e ∙ ap (λ x. cond (eqb l i && eqb d j) b x) f
+  change2_same : (l d : ℕ) (a b : List Queued) (q r : ℕ → ℕ → List Queued) (i j : ℕ) → a ≡ b → q i j ≡ r i j → change2 l d a q i j ≡ change2 l d b r i j
+  change2_same l d a b q r i j e f = ap (λ x. cond (eqb l i && eqb d j) x (q i j)) e ∙ ap (λ x. cond (eqb l i && eqb d j) b x) f
 
   -- what waits in a direction
-  queue-of : (fs : List Frame) (l d : ℕ) → d < 2 → queues_of s.lanes fs l d ≡ map (queued_at fs) (s.lanes (lane l d))
-  queue-of gs l d a = rw (lt-ltb d 2 a)
+  queue_of : (fs : List Frame) (l d : ℕ) → d < 2 → queues_of s.lanes fs l d ≡ map (queued_at fs) (s.lanes (lane l d))
+  queue_of gs l d a = rw (lt-ltb d 2 a)
 
   -- a place is free, filled, and joins a queue
-  pub put-model : (l d x : ℕ) (xs o : List ℕ) (v : Frame) → lane l d < 101 → d < 2 → s.lanes 0 ≡ x ∷ xs → x < length fs → contents v ≡ o → model_of k n (pushed (lane l d) x (popped_as 0 (x ∷ xs) s)) (set fs x v) ≡ put_in l d x o (model_of k n s fs)
-  put-model l d x xs o v lb db e xb c = model_same k n _ _ _ _ _ _ free waits hands
+  pub put_model : (l d x : ℕ) (xs o : List ℕ) (v : Frame) → lane l d < 101 → d < 2 → s.lanes 0 ≡ x ∷ xs → x < length fs → contents v ≡ o → model_of k n (pushed (lane l d) x (popped_as 0 (x ∷ xs) s)) (set fs x v) ≡ put_in l d x o (model_of k n s fs)
+  put_model l d x xs o v lb db e xb c = model_same k n _ _ _ _ _ _ free waits hands
     where
       q : ℕ
       q = lane l d
@@ -114,37 +114,37 @@ module _ (k n : ℕ) (s : Spots) (fs : List Frame) (once : OnceEach s) (past : B
       g : ℕ → List ℕ
       g = change 0 xs s.lanes
 
-      q-not : q ≢ 0
-      q-not = λ z. absurd (omega arith)
+      q_not : q ≢ 0
+      q_not = λ z. absurd (omega arith)
 
-      g-q : g q ≡ s.lanes q
-      g-q = change_there 0 q xs s.lanes q-not
+      g_q : g q ≡ s.lanes q
+      g_q = change_there 0 q xs s.lanes q_not
 
       free : length (change q (g q ++ x ∷ []) g 0) ≡ length (s.lanes 0) - 1
       free = let z : 0 ≢ q = λ y. absurd (omega arith) in rw (change_there q 0 (g q ++ x ∷ []) g z, change_here 0 xs s.lanes) (omega (arith, ap length e))
 
       joins : map (queued_at (set fs x v)) (g q ++ x ∷ []) ≡ queues_of s.lanes fs l d ++ queued x o ∷ []
       joins =
-          rw (g-q, map_push (queued_at (set fs x v)) (s.lanes q) x, map_away fs x v (s.lanes q) (x-apart 0 x xs (omega arith) e q q-not), get_or-set_same fs x v no_frame xb, c, queue-of fs l d db)
+          rw (g_q, map_push (queued_at (set fs x v)) (s.lanes q) x, map_away fs x v (s.lanes q) (x_apart 0 x xs (omega arith) e q q_not), get_or-set_same fs x v no_frame xb, c, queue_of fs l d db)
 
       others : (i j : ℕ) (b : Bool) → cond b (map (queued_at (set fs x v)) (s.lanes (lane i j))) [] ≡ cond b (map (queued_at fs) (s.lanes (lane i j))) []
-      others i j true = map_away fs x v (s.lanes (lane i j)) (x-apart 0 x xs (omega arith) e (lane i j) (omega arith))
+      others i j true = map_away fs x v (s.lanes (lane i j)) (x_apart 0 x xs (omega arith) e (lane i j) (omega arith))
       others i j false = refl
 
       waits : (i j : ℕ) → queues_of (change q (g q ++ x ∷ []) g) (set fs x v) i j ≡ change2 l d (queues_of s.lanes fs l d ++ queued x o ∷ []) (queues_of s.lanes fs) i j
-      waits i j = queue_change (set fs x v) l d db (g q ++ x ∷ []) g i j ∙ change2-same l d (map (queued_at (set fs x v)) (g q ++ x ∷ [])) (queues_of s.lanes fs l d ++ queued x o ∷ []) (queues_of g (set fs x v)) (queues_of s.lanes fs) i j joins (queue_zero (set fs x v) xs s.lanes i j ∙ others i j (ltb j 2))
+      waits i j = queue_change (set fs x v) l d db (g q ++ x ∷ []) g i j ∙ change2_same l d (map (queued_at (set fs x v)) (g q ++ x ∷ [])) (queues_of s.lanes fs l d ++ queued x o ∷ []) (queues_of g (set fs x v)) (queues_of s.lanes fs) i j joins (queue_zero (set fs x v) xs s.lanes i j ∙ others i j (ltb j 2))
 
       hands : (j : ℕ) → hands_of (change x false (change x true s.hand)) (set fs x v) j ≡ hands_of s.hand fs j
-      hands j = elim (cases_eq j x) [ inl d ↦ rw (d, change_here x false (change x true s.hand), x-unheld 0 x xs (omega arith) e) | inr ne ↦ rw (change_there x j false (change x true s.hand) ne, change_there x j true s.hand ne, get_or-set_other fs x j v no_frame ne) ]
+      hands j = elim (cases_eq j x) [ inl d ↦ rw (d, change_here x false (change x true s.hand), x_unheld 0 x xs (omega arith) e) | inr ne ↦ rw (change_there x j false (change x true s.hand) ne, change_there x j true s.hand ne, get_or-set_other fs x j v no_frame ne) ]
 
   -- the first of a queue comes into the hand
-  pub take-model : (l d x : ℕ) (xs : List ℕ) → d < 2 → s.lanes (lane l d) ≡ x ∷ xs → model_of k n (popped_as (lane l d) (x ∷ xs) s) fs ≡ taken_as l d (map (queued_at fs) (x ∷ xs)) (model_of k n s fs)
-  take-model l d x xs db e = model_same k n _ _ _ _ _ _ (let z : 0 ≢ lane l d = λ y. absurd (omega arith) in rw (change_there (lane l d) 0 xs s.lanes z)) (queue_change fs l d db xs s.lanes) (hands_in fs x s.hand)
+  pub take_model : (l d x : ℕ) (xs : List ℕ) → d < 2 → s.lanes (lane l d) ≡ x ∷ xs → model_of k n (popped_as (lane l d) (x ∷ xs) s) fs ≡ taken_as l d (map (queued_at fs) (x ∷ xs)) (model_of k n s fs)
+  take_model l d x xs db e = model_same k n _ _ _ _ _ _ (let z : 0 ≢ lane l d = λ y. absurd (omega arith) in rw (change_there (lane l d) 0 xs s.lanes z)) (queue_change fs l d db xs s.lanes) (hands_in fs x s.hand)
 
   -- a frame in hand joins a queue
-  pub pass-model : (l d p : ℕ) → d < 2 → s.hand p ≡ true → model_of k n (pushed (lane l d) p s) fs ≡ passed_as l d p (hands_of s.hand fs p) (model_of k n s fs)
-  pass-model l d p db h = rw h (model_same k n _ _ _ _ _ _ (let z : 0 ≢ lane l d = λ y. absurd (omega arith) in rw (change_there (lane l d) 0 (s.lanes (lane l d) ++ p ∷ []) s.lanes z)) (λ i j. queue_change fs l d db (s.lanes (lane l d) ++ p ∷ []) s.lanes i j ∙ change2-same l d (map (queued_at fs) (s.lanes (lane l d) ++ p ∷ [])) (queues_of s.lanes fs l d ++ queued_at fs p ∷ []) (queues_of s.lanes fs) (queues_of s.lanes fs) i j (rw (map_push (queued_at fs) (s.lanes (lane l d)) p, queue-of fs l d db)) refl) (hands_out fs p s.hand))
+  pub pass_model : (l d p : ℕ) → d < 2 → s.hand p ≡ true → model_of k n (pushed (lane l d) p s) fs ≡ passed_as l d p (hands_of s.hand fs p) (model_of k n s fs)
+  pass_model l d p db h = rw h (model_same k n _ _ _ _ _ _ (let z : 0 ≢ lane l d = λ y. absurd (omega arith) in rw (change_there (lane l d) 0 (s.lanes (lane l d) ++ p ∷ []) s.lanes z)) (λ i j. queue_change fs l d db (s.lanes (lane l d) ++ p ∷ []) s.lanes i j ∙ change2_same l d (map (queued_at fs) (s.lanes (lane l d) ++ p ∷ [])) (queues_of s.lanes fs l d ++ queued_at fs p ∷ []) (queues_of s.lanes fs) (queues_of s.lanes fs) i j (rw (map_push (queued_at fs) (s.lanes (lane l d)) p, queue_of fs l d db)) refl) (hands_out fs p s.hand))
 
   -- a frame in hand is spent
-  pub end-model : (p : ℕ) → model_of k n (pushed 0 p s) fs ≡ freed p (model_of k n s fs)
-  end-model p = model_same k n _ _ _ _ _ _ (rw (change_here 0 (s.lanes 0 ++ p ∷ []) s.lanes) (length_push (s.lanes 0) p)) (queue_zero fs (s.lanes 0 ++ p ∷ []) s.lanes) (hands_out fs p s.hand)
+  pub end_model : (p : ℕ) → model_of k n (pushed 0 p s) fs ≡ freed p (model_of k n s fs)
+  end_model p = model_same k n _ _ _ _ _ _ (rw (change_here 0 (s.lanes 0 ++ p ∷ []) s.lanes) (length_push (s.lanes 0) p)) (queue_zero fs (s.lanes 0 ++ p ∷ []) s.lanes) (hands_out fs p s.hand)

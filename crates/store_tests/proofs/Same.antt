@@ -1,7 +1,7 @@
 -- Two frames in hand that one store cannot tell apart are in hand at the same place.
 use Rattle.std.proofs.Common.{◌≡◌, ℕ, Bool, true, false, eqb, is_some, None, Ok, Err, Result, sym, refl, ap, ◌∙◌, inl, inr, arith}
 use Rattle.refusal.specs.declared.Refusal.TheVariants.{NotInHand}
-use Rattle.std.proofs.lemmas.Bool.{cases_Bool, cases_eq, and_parts, eqb-true}
+use Rattle.std.proofs.lemmas.Bool.{true≢false, cases_Bool, cases_eq, and_parts, eqb-true}
 use Rattle.store.specs.declared.hand.HandedBack.{HandedBack}
 use Rattle.store.specs.declared.hand.InHand.{InHand}
 use Rattle.store.specs.Model.{Model, in_hand, spend_answer, spend_after, freed}
@@ -37,13 +37,10 @@ in_place a b own m n x o i ok after err =
     ap (λ (t : InHand). in_hand t own) (back.0 ∙ ap (λ s. token s b.place) store ∙ ap (λ p. token a.store p) place) ∙ o
   where
     same : n ≡ freed a.place m → in_hand b n ≡ false → b.place ≡ a.place
-    same left none = elim (cases_eq b.place a.place) [ inl e ↦ e | inr ne ↦ absurd (clash (sym (still ne) ∙ ap (λ (y : Model). in_hand b y) (sym left) ∙ none)) ]
+    same left none = elim (cases_eq b.place a.place) [ inl e ↦ e | inr ne ↦ absurd (true≢false (sym (still ne) ∙ ap (λ (y : Model). in_hand b y) (sym left) ∙ none)) ]
       where
         still : (ne : b.place ≡ a.place → ⊥) → in_hand b (freed a.place m) ≡ true
         still ne = rw (change_there a.place b.place None m.hands ne) i
-
-        clash : true ≡ false → ⊥
-        clash e = let y : ◌≡◌ {A = ℕ} 0 1 = cc in omega arith
 
 -- a refused frame leaves the store as it was
 pub kept : (t : InHand) (m n : Model) (x : HandedBack) → Err x ≡ spend_answer t m → n ≡ spend_after t m → n ≡ m

@@ -1,19 +1,19 @@
 use Rattle.std.proofs.Common.{◌≡◌, get_or, set, sym, ap, ◌∙◌, subst, inl, inr, arith, length-set}
 use Rattle.store.specs.Chains.{Spots, OnceEach, EndAt}
 use Rattle.store.specs.Spots.{spots}
-use Rattle.store.proofs.Standing.{push-once}
-use Rattle.store.proofs.Moves.{tail-below, held_below, push-few, push-total, push-counted, Way, push-after, way-lengths, push-ends-at}
+use Rattle.store.proofs.Standing.{push_once}
+use Rattle.store.proofs.Moves.{tail_below, held_below, push_few, push_total, push_counted, Way, push_after, way_lengths, push_ends_at}
 use Rattle.store.proofs.chains.Chains.push.Goals as goal
 use Rattle.store.proofs.chains.Chains.push.Goals.{then-len-eq0, else-len-eq0}
 
 pub bounds-self-self : goal.bounds-self-self
-bounds-self-self c = tail-below c.args.self.now c.args.list c.requires.0 c.if-len-eq0.false
+bounds-self-self c = tail_below c.args.self.now c.args.list c.requires.0 c.if-len-eq0.false
 
 pub offset_bounds-self-self : goal.offset_bounds-self-self
-offset_bounds-self-self c = omega (arith, tail-below c.args.self.now c.args.list c.requires.0 c.if-len-eq0.false)
+offset_bounds-self-self c = omega (arith, tail_below c.args.self.now c.args.list c.requires.0 c.if-len-eq0.false)
 
 pub overflow_add-self : goal.overflow_add-self
-overflow_add-self c = omega (arith, push-few c.args.self.now c.args.list c.args.place c.requires.0 c.requires.1)
+overflow_add-self c = omega (arith, push_few c.args.self.now c.args.list c.args.place c.requires.0 c.requires.1)
 
 pub bounds-self-place : goal.bounds-self-place
 bounds-self-place c = held_below c.args.self.now c.args.place c.requires.1
@@ -26,10 +26,10 @@ invariant_of-self c =
     let n = c.if-len-eq0.self.1.0 in
     let h = c.if-len-eq0.self.1.1.0 in
     let way : Way s q p n h = elim c.if-len-eq0.branch [ then-len-eq0 w ↦ inl (w.if-len-eq0.true, ap (λ x. x.1.0) w.self-is, ap (λ x. x.1.1.0) w.self-is) | else-len-eq0 w ↦ inr (w.if-len-eq0.false, ap (λ x. x.1.0) w.self-is, ap (λ x. x.1.1.0) w.self-is) ] in
-    let after = sym (push-after s q p c.requires.0 c.requires.1 n h way) in
-    let sizes = way-lengths s q p c.requires.0 c.requires.1 n h way in
-    let once = subst OnceEach after (push-once (spots s) s.once q p c.requires.0 c.requires.1) in
-    let ends = subst (λ (x : Spots). EndAt x (λ j. get_or (set s.tails q p) j 0)) after (push-ends-at s q p c.requires.0 c.requires.1) in
+    let after = sym (push_after s q p c.requires.0 c.requires.1 n h way) in
+    let sizes = way_lengths s q p c.requires.0 c.requires.1 n h way in
+    let once = subst OnceEach after (push_once (spots s) s.once q p c.requires.0 c.requires.1) in
+    let ends = subst (λ (x : Spots). EndAt x (λ j. get_or (set s.tails q p) j 0)) after (push_ends_at s q p c.requires.0 c.requires.1) in
     record {
       nexts = sizes.0;
       first = sizes.1;
@@ -38,8 +38,8 @@ invariant_of-self c =
       hands = length-set _ _ _ ∙ s.hands;
       once = once;
       ends = ends;
-      all = push-total s q p c.requires.0 c.requires.1;
-      counted = push-counted s q p c.requires.0 c.requires.1;
+      all = push_total s q p c.requires.0 c.requires.1;
+      counted = push_counted s q p c.requires.0 c.requires.1;
     }
 
 pub returns : goal.returns
@@ -50,4 +50,4 @@ returns c =
     let n = c.if-len-eq0.self.1.0 in
     let h = c.if-len-eq0.self.1.1.0 in
     let way : Way s q p n h = elim c.if-len-eq0.branch [ then-len-eq0 w ↦ inl (w.if-len-eq0.true, ap (λ x. x.1.0) w.self-is, ap (λ x. x.1.1.0) w.self-is) | else-len-eq0 w ↦ inr (w.if-len-eq0.false, ap (λ x. x.1.0) w.self-is, ap (λ x. x.1.1.0) w.self-is) ] in
-    push-after s q p c.requires.0 c.requires.1 n h way
+    push_after s q p c.requires.0 c.requires.1 n h way

@@ -2,20 +2,20 @@ use Rattle.std.proofs.Common.{get_or, sym, ap, ◌∙◌, arith}
 use Rattle.std.proofs.lemmas.Bool.Decides.{nat_tests}
 use Rattle.store.specs.Chains.{Spots}
 use Rattle.store.specs.Contents.{no_frame}
-use Rattle.store.proofs.Calls.{turned, put-lost, put-waits, first_below, first-held, lane_below}
-use Rattle.store.proofs.Reach.{reached-put}
+use Rattle.store.proofs.Calls.{turned, put_lost, put_waits, first_below, first_held, lane_below}
+use Rattle.store.proofs.Reach.{reached_put}
 use Rattle.store.proofs.store.Store.put.Goals as goal
 
 pub invariant_of-self : goal.invariant_of-self
 invariant_of-self c =
     let s = c.args.self.now in
-    let r = put-lost s c.args.link c.args.direction c.in_ok-lane.lane c.in_ok-lane.ensures c.args.octets.now (sym c.if-is_wrong_length.ensures) c.pop.new.self c.in_default.ensures.answer c.in_default.ensures.after in
-    record { few = s.few; whole = s.whole; reached = reached-put s c.args.link c.args.direction c.args.octets.now (turned s c.pop.new.self s.frames) r.1 }
+    let r = put_lost s c.args.link c.args.direction c.in_ok-lane.lane c.in_ok-lane.ensures c.args.octets.now (sym c.if-is_wrong_length.ensures) c.pop.new.self c.in_default.ensures.answer c.in_default.ensures.after in
+    record { few = s.few; whole = s.whole; reached = reached_put s c.args.link c.args.direction c.args.octets.now (turned s c.pop.new.self s.frames) r.1 }
 
 pub returns-in_default : goal.returns-in_default
 returns-in_default c =
     let s = c.args.self.now in
-    let r = put-lost s c.args.link c.args.direction c.in_ok-lane.lane c.in_ok-lane.ensures c.args.octets.now (sym c.if-is_wrong_length.ensures) c.pop.new.self c.in_default.ensures.answer c.in_default.ensures.after in
+    let r = put_lost s c.args.link c.args.direction c.in_ok-lane.lane c.in_ok-lane.ensures c.args.octets.now (sym c.if-is_wrong_length.ensures) c.pop.new.self c.in_default.ensures.answer c.in_default.ensures.after in
     record { answer = r.0; after = r.1 }
 
 pub fill_at-requires : goal.fill_at-requires
@@ -25,17 +25,17 @@ pub push-requires : goal.push-requires
 push-requires c =
     let s = c.args.self.now in (
       lane_below s c.args.link c.args.direction c.in_ok-lane.lane c.in_ok-lane.ensures,
-      ap (λ (x : Spots). x.hand c.in-Some.free) c.in-Some.ensures.after ∙ first-held s c.in-Some.free c.in-Some.ensures.answer,
+      ap (λ (x : Spots). x.hand c.in-Some.free) c.in-Some.ensures.after ∙ first_held s c.in-Some.free c.in-Some.ensures.answer,
     )
 
 pub invariant_of-self-2 : goal.invariant_of-self-2
 invariant_of-self-2 c =
     let s = c.args.self.now in
-    let r = put-waits s c.args.link c.args.direction c.in_ok-lane.lane c.in_ok-lane.ensures c.args.octets.now (sym c.if-is_wrong_length.ensures) c.pop.new.self c.push.new.self c.in-Some.free c.fill_at.new.frames (get_or c.fill_at.new.frames c.in-Some.free no_frame) c.in-Some.ensures.answer c.in-Some.ensures.after c.push.ensures c.fill_at.ensures.0 c.fill_at.ensures.1 in
-    record { few = s.few; whole = c.fill_at.auto.frames ∙ s.whole; reached = reached-put s c.args.link c.args.direction c.args.octets.now (turned s c.push.new.self c.fill_at.new.frames) r.1 }
+    let r = put_waits s c.args.link c.args.direction c.in_ok-lane.lane c.in_ok-lane.ensures c.args.octets.now (sym c.if-is_wrong_length.ensures) c.pop.new.self c.push.new.self c.in-Some.free c.fill_at.new.frames (get_or c.fill_at.new.frames c.in-Some.free no_frame) c.in-Some.ensures.answer c.in-Some.ensures.after c.push.ensures c.fill_at.ensures.0 c.fill_at.ensures.1 in
+    record { few = s.few; whole = c.fill_at.auto.frames ∙ s.whole; reached = reached_put s c.args.link c.args.direction c.args.octets.now (turned s c.push.new.self c.fill_at.new.frames) r.1 }
 
 pub returns : goal.returns
 returns c =
     let s = c.args.self.now in
-    let r = put-waits s c.args.link c.args.direction c.in_ok-lane.lane c.in_ok-lane.ensures c.args.octets.now (sym c.if-is_wrong_length.ensures) c.pop.new.self c.push.new.self c.in-Some.free c.fill_at.new.frames (get_or c.fill_at.new.frames c.in-Some.free no_frame) c.in-Some.ensures.answer c.in-Some.ensures.after c.push.ensures c.fill_at.ensures.0 c.fill_at.ensures.1 in
+    let r = put_waits s c.args.link c.args.direction c.in_ok-lane.lane c.in_ok-lane.ensures c.args.octets.now (sym c.if-is_wrong_length.ensures) c.pop.new.self c.push.new.self c.in-Some.free c.fill_at.new.frames (get_or c.fill_at.new.frames c.in-Some.free no_frame) c.in-Some.ensures.answer c.in-Some.ensures.after c.push.ensures c.fill_at.ensures.0 c.fill_at.ensures.1 in
     record { answer = r.0; after = r.1 }
