@@ -3,7 +3,7 @@ use Rattle.std.proofs.Common.{◌≡◌, ℕ, zero, suc, ◌+◌, ◌-◌, ◌*�
 use Rattle.refusal.specs.declared.Refusal.{Refusal}
 use Rattle.refusal.specs.declared.Refusal.TheVariants.{NothingWaits}
 use Rattle.std.proofs.lemmas.Bool.Decides.{nat_tests}
-use Rattle.std.proofs.lemmas.Bool.{lt-ltb, and_parts}
+use Rattle.std.proofs.lemmas.Bool.{eq-eqb, lt-ltb, and_parts}
 use Rattle.std.proofs.lemmas.List.{get_or_past, length-map}
 use Rattle.store.specs.declared.hand.InHand.{InHand}
 use Rattle.store.specs.declared.hand.Put.TheVariants.{Waits, Lost}
@@ -21,7 +21,6 @@ use Rattle.store.specs.View.{lane, lane_answer, queued_at, hands_of, model_of}
 use Rattle.store.proofs.Lanes.{There, found, on_link_lem, is_link_lem}
 use Rattle.store.proofs.Moves.{held_below}
 use Rattle.store.proofs.Standing.{change_here, sum_same}
-use Rattle.store.proofs.Taken as taken
 use Rattle.store.proofs.Views.{Beyond, put_model, take_model, pass_model, end_model, free_at, x_below}
 
 -- what the store holds with other chains and frames
@@ -56,24 +55,22 @@ is_some [] p e = cc
 is_some (x ∷ xs) p e = let d : x ≡ p = cc in ap (λ y. y ∷ xs) d
 
 module _ (s : Store) where
-  -- the first free place
-  module _ (p : ℕ) (f : Some p ≡ first_of ((spots s.chains).lanes 0)) where
-    pub first_held : (popped 0 (spots s.chains)).hand p ≡ true
-    first_held = let e = is_some ((spots s.chains).lanes 0) p f in rw e (change_here p true (spots s.chains).hand)
+  -- the first place of a list
+  module _ (q p : ℕ) (f : Some p ≡ first_of ((spots s.chains).lanes q)) where
+    pub first_held : (popped q (spots s.chains)).hand p ≡ true
+    first_held = let e = is_some ((spots s.chains).lanes q) p f in rw e (change_here p true (spots s.chains).hand)
 
-    pub first_below : p < length s.frames
-    first_below = omega (arith, s.whole, x_below s.number s.links (spots s.chains) s.frames s.chains.once (beyond s.chains) 0 p (tail_of ((spots s.chains).lanes 0)) (omega arith) (is_some ((spots s.chains).lanes 0) p f))
+    pub first_below : q < 101 → p < length s.frames
+    first_below l = omega (arith, s.whole, x_below s.number s.links (spots s.chains) s.frames s.chains.once (beyond s.chains) q p (tail_of ((spots s.chains).lanes q)) l (is_some ((spots s.chains).lanes q) p f))
 
-  -- the octets and the place of a frame in hand
+    -- it is in hand once it is popped
+    pub first_in_hand : (c : Chains) → spots c ≡ popped q (spots s.chains) → in_hand (record { store = s.number; place = p }) (turned s c s.frames) ≡ true
+    first_in_hand c g = rw (eq-eqb s.number s.number refl, held_some (spots c).hand s.frames p) (ap (λ (x : Spots). x.hand p) g ∙ first_held)
+
+  -- a frame in hand is spent
   module _ (t : InHand) (i : in_hand t (model s) ≡ true) where
-    pub is_held : (spots s.chains).hand t.place ≡ true
+    is_held : (spots s.chains).hand t.place ≡ true
     is_held = sym (held_some (spots s.chains).hand s.frames t.place) ∙ (and_parts (eqb t.store s.number) (option_is_some ((model s).hands t.place)) i).1
-
-    pub place_below : t.place < 128
-    place_below = held_below s.chains t.place is_held
-
-    pub octets_shown : (o : List ℕ) → o ≡ contents (get_or s.frames t.place no_frame) → Ok o ≡ octets_answer t (model s)
-    octets_shown o e = rw ((and_parts (eqb t.store s.number) (option_is_some ((model s).hands t.place)) i).0, is_held) (ap (λ (x : List ℕ). Ok x) e)
 
     pub spent : (c : Chains) → spots c ≡ pushed 0 t.place (spots s.chains) → turned s c s.frames ≡ spend_after t (model s)
     spent c g = rw i (ap (λ (x : Spots). model_of s.number s.links x s.frames) g ∙ end_model s.number s.links (spots s.chains) s.frames s.chains.once (beyond s.chains) t.place)
@@ -85,67 +82,40 @@ module _ (s : Store) where
     pub lane_below : q < 101
     lane_below = omega (arith, w.link, w.direction, w.list, s.few)
 
-    pub waits : (r : ℕ) → r ≡ length ((spots s.chains).lanes q) → Ok r ≡ waiting_answer l d (model s)
-    waits r e = rw (on_link_lem s.links l d w.link w.direction (Ok (length ((model s).queues l d))), lt-ltb d 2 w.direction, length-map ((spots s.chains).lanes (lane l d)) (queued_at s.frames)) (ap (λ x. Ok x) (e ∙ ap (λ x. length ((spots s.chains).lanes x)) w.list))
+    -- the first of a list, if it has one, comes into the hand
+    pub taken : (c : Chains) → spots c ≡ popped q (spots s.chains) → turned s c s.frames ≡ take_after l d (model s)
+    taken c g = ap (λ (x : Spots). model_of s.number s.links x s.frames) (g ∙ ap (λ x. popped x old) w.list) ∙ rw (is_link_lem s.links l d w.link w.direction, lt-ltb d 2 w.direction) (go (old.lanes (lane l d)) refl)
+      where
+        old : Spots
+        old = spots s.chains
 
-    -- the first of a list comes into the hand
-    module _ (c : Chains) (g : spots c ≡ popped q (spots s.chains)) where
-      pub take_none : None ≡ first_of ((spots s.chains).lanes q) → (Err NothingWaits ≡ take_answer l d (model s)) × (turned s c s.frames ≡ take_after l d (model s))
-      take_none f =
-          let e : (spots s.chains).lanes (lane l d) ≡ [] = not_some ((spots s.chains).lanes (lane l d)) (f ∙ ap (λ x. first_of ((spots s.chains).lanes x)) w.list) in
-          let h : spots c ≡ spots s.chains = g ∙ ap (λ x. popped x (spots s.chains)) w.list ∙ ap (λ (xs : List ℕ). popped_as (lane l d) xs (spots s.chains)) e in (
-            rw (on_link_lem s.links l d w.link w.direction (token_of s.number ((model s).queues l d)), lt-ltb d 2 w.direction, e),
-            rw (is_link_lem s.links l d w.link w.direction, lt-ltb d 2 w.direction, e) (ap (λ (x : Spots). model_of s.number s.links x s.frames) h),
-          )
-
-      pub take_some : (p : ℕ) → Some p ≡ first_of ((spots s.chains).lanes q) → (Ok (record { store = s.number; place = p }) ≡ take_answer l d (model s)) × (turned s c s.frames ≡ take_after l d (model s))
-      take_some p f =
-          let old = spots s.chains in
-          let e = is_some (old.lanes (lane l d)) p (f ∙ ap (λ x. first_of (old.lanes x)) w.list) in
-          let h : spots c ≡ popped_as (lane l d) (p ∷ tail_of (old.lanes (lane l d))) old = g ∙ ap (λ x. popped x old) w.list ∙ ap (λ (xs : List ℕ). popped_as (lane l d) xs old) e in
-          let m = take_model s.number s.links old s.frames s.chains.once (beyond s.chains) l d p (tail_of (old.lanes (lane l d))) w.direction e in (
-            rw (on_link_lem s.links l d w.link w.direction (token_of s.number ((model s).queues l d)), lt-ltb d 2 w.direction) (ap (λ (xs : List ℕ). token_of s.number (map (queued_at s.frames) xs)) (sym e)),
-            rw (is_link_lem s.links l d w.link w.direction, lt-ltb d 2 w.direction) (ap (λ (x : Spots). model_of s.number s.links x s.frames) h ∙ m ∙ ap (λ (xs : List ℕ). taken_as l d (map (queued_at s.frames) xs) (model s)) (sym e)),
-          )
-
-      pub take_any : turned s c s.frames ≡ take_after l d (model s)
-      take_any = go (first_of ((spots s.chains).lanes q)) refl
-        where
-          go : (o : Option ℕ) → o ≡ first_of ((spots s.chains).lanes q) → turned s c s.frames ≡ take_after l d (model s)
-          go None e = (take_none e).1
-          go (Some p) e = (take_some p e).1
+        go : (xs : List ℕ) → old.lanes (lane l d) ≡ xs → model_of s.number s.links (popped_as (lane l d) xs old) s.frames ≡ taken_as l d (map (queued_at s.frames) xs) (model s)
+        go [] e = refl
+        go (p ∷ rest) e = take_model s.number s.links old s.frames s.chains.once (beyond s.chains) l d p rest w.direction e
 
     -- a frame in hand goes behind all of a list
-    pub pass_answer_lem : (t : InHand) → in_hand t (model s) ≡ true → Ok tt ≡ pass_answer t l d (model s)
-    pass_answer_lem t i = sym (taken.passed t (model s) i l d w.link w.direction)
-
     pub passed : (t : InHand) → in_hand t (model s) ≡ true → (c : Chains) → spots c ≡ pushed q t.place (spots s.chains) → turned s c s.frames ≡ pass_after t l d (model s)
     passed t i c g = rw (is_link_lem s.links l d w.link w.direction, i) (ap (λ (x : Spots). model_of s.number s.links x s.frames) (g ∙ ap (λ x. pushed x t.place (spots s.chains)) w.list) ∙ pass_model s.number s.links (spots s.chains) s.frames s.chains.once (beyond s.chains) l d t.place w.direction (is_held t i))
 
     module _ (o : List ℕ) (good : wrong_length o ≡ false) where
-      pub put_lost : (c : Chains) → None ≡ first_of ((spots s.chains).lanes 0) → spots c ≡ popped 0 (spots s.chains) → (Ok Lost ≡ put_answer l d o (model s)) × ((p : ℕ) × PutInto l d o (model s) (turned s c s.frames) p)
+      pub put_lost : (c : Chains) → None ≡ first_of ((spots s.chains).lanes 0) → spots c ≡ popped 0 (spots s.chains) → (p : ℕ) × PutInto l d o (model s) (turned s c s.frames) p
       put_lost c f g =
           let e = not_some ((spots s.chains).lanes 0) f in
           let h : spots c ≡ spots s.chains = rw e at g in
-          let v : put_goes l d o (model s) ≡ false = rw (good, is_link_lem s.links l d w.link w.direction, e) in (
-            rw (good, on_link_lem s.links l d w.link w.direction (Ok (cond (eqb (model s).free 0) Lost Waits)), e),
-            (0, record { was_free = λ u. cc; after = rw v (ap (λ (x : Spots). model_of s.number s.links x s.frames) h) }),
-          )
+          let v : put_goes l d o (model s) ≡ false = rw (good, is_link_lem s.links l d w.link w.direction, e) in
+          (0, record { was_free = λ u. cc; after = rw v (ap (λ (x : Spots). model_of s.number s.links x s.frames) h) })
 
-      pub put_waits : (b c : Chains) (p : ℕ) (fs : List Frame) (v : Frame) → Some p ≡ first_of ((spots s.chains).lanes 0) → spots b ≡ popped 0 (spots s.chains) → spots c ≡ pushed q p (spots b) → fs ≡ set s.frames p v → contents v ≡ o → (Ok Waits ≡ put_answer l d o (model s)) × ((p : ℕ) × PutInto l d o (model s) (turned s c fs) p)
+      pub put_waits : (b c : Chains) (p : ℕ) (fs : List Frame) (v : Frame) → Some p ≡ first_of ((spots s.chains).lanes 0) → spots b ≡ popped 0 (spots s.chains) → spots c ≡ pushed q p (spots b) → fs ≡ set s.frames p v → contents v ≡ o → (p : ℕ) × PutInto l d o (model s) (turned s c fs) p
       put_waits b c p fs v f h g r n =
           let old = spots s.chains in
           let rest = tail_of (old.lanes 0) in
           let e = is_some (old.lanes 0) p f in
           let all : spots c ≡ pushed (lane l d) p (popped_as 0 (p ∷ rest) old) = g ∙ ap (λ (x : Spots). pushed q p x) h ∙ ap (λ x. pushed x p (popped 0 old)) w.list ∙ ap (λ (xs : List ℕ). pushed (lane l d) p (popped_as 0 xs old)) e in
           let lb : lane l d < 101 = omega (arith, lane_below, w.list) in
-          let m = put_model s.number s.links old s.frames s.chains.once (beyond s.chains) l d p rest o v lb w.direction e (first_below p f) n in
+          let m = put_model s.number s.links old s.frames s.chains.once (beyond s.chains) l d p rest o v lb w.direction e (first_below 0 p f (omega arith)) n in
           let some : 0 < length (old.lanes 0) = omega (arith, ap length e) in
           let goes : put_goes l d o (model s) ≡ true = rw (good, is_link_lem s.links l d w.link w.direction, lt-ltb 0 (length (old.lanes 0)) some) in
-          let room : eqb (length (old.lanes 0)) 0 ≡ false = grind (arith, nat_tests) in (
-            rw (good, on_link_lem s.links l d w.link w.direction (Ok (cond (eqb (model s).free 0) Lost Waits)), room),
-            (p, record { was_free = λ u. free_at s.number s.links old s.frames s.chains.once (beyond s.chains) p rest e; after = rw goes (ap (λ (x : Spots). model_of s.number s.links x fs) all ∙ ap (λ (ys : List Frame). model_of s.number s.links (pushed (lane l d) p (popped_as 0 (p ∷ rest) old)) ys) r ∙ m) }),
-          )
+          (p, record { was_free = λ u. free_at s.number s.links old s.frames s.chains.once (beyond s.chains) p rest e; after = rw goes (ap (λ (x : Spots). model_of s.number s.links x fs) all ∙ ap (λ (ys : List Frame). model_of s.number s.links (pushed (lane l d) p (popped_as 0 (p ∷ rest) old)) ys) r ∙ m) })
 
   -- the count of the places in hand
   pub hands_held : in_hands (model s) ≡ holdings (spots s.chains)

@@ -33,7 +33,5 @@ invariant_of-self c =
       counted = pop_counted s q c.requires c.if-len-eq0.false;
     }
 
-pub returns : goal.returns
-returns c =
-    let s = c.args.self.now in
-    record { answer = popped_place s c.args.list c.requires c.if-len-eq0.false; after = pop_after s c.args.list c.requires c.if-len-eq0.false }
+pub returns-clause-after : goal.returns-clause-after
+returns-clause-after c = pop_after c.args.self.now c.args.list c.requires c.if-len-eq0.false

@@ -12,12 +12,6 @@ bounds-self-self c = tail_below c.args.self.now c.args.list c.requires.0 c.if-le
 pub offset_bounds-self-self : goal.offset_bounds-self-self
 offset_bounds-self-self c = omega (arith, tail_below c.args.self.now c.args.list c.requires.0 c.if-len-eq0.false)
 
-pub overflow_add-self : goal.overflow_add-self
-overflow_add-self c = omega (arith, push_few c.args.self.now c.args.list c.args.place c.requires.0 c.requires.1)
-
-pub bounds-self-place : goal.bounds-self-place
-bounds-self-place c = held_below c.args.self.now c.args.place c.requires.1
-
 pub invariant_of-self : goal.invariant_of-self
 invariant_of-self c =
     let s = c.args.self.now in

@@ -1,9 +1,7 @@
 use Rattle.std.proofs.Common.{sym}
 use Rattle.store.specs.Laws.{spends}
-use Rattle.store.specs.Stores.{model}
 use Rattle.store.proofs.Calls.{turned, spent}
 use Rattle.store.proofs.Reach.{reached_next}
-use Rattle.store.proofs.Taken as taken
 use Rattle.store.proofs.store.Store.drop_frame.Goals as goal
 
 pub invariant_of-self : goal.invariant_of-self
@@ -12,11 +10,5 @@ invariant_of-self c =
     let after = spent s c.args.frame (sym c.if-not-holds.ensures) c.push.new.self c.push.ensures in
     record { few = s.few; whole = s.whole; reached = reached_next s (spends c.args.frame) (turned s c.push.new.self s.frames) tt after }
 
-pub returns : goal.returns
-returns c =
-    let s = c.args.self.now in
-    let i = sym c.if-not-holds.ensures in
-    record {
-      answer = sym (taken.spent c.args.frame (model s) i);
-      after = spent s c.args.frame i c.push.new.self c.push.ensures;
-    }
+pub returns-clause-after : goal.returns-clause-after
+returns-clause-after c = spent c.args.self.now c.args.frame (sym c.if-not-holds.ensures) c.push.new.self c.push.ensures
