@@ -1,12 +1,8 @@
 -- What each call answers and leaves, from what its moves did.
-use Rattle.std.proofs.Common.{◌≡◌, ℕ, zero, suc, ◌+◌, ◌-◌, ◌*◌, ◌<◌, ◌≤◌, Bool, true, false, cond, not, ◌&&◌, ◌||◌, eqb, ltb, leb, ◌≢◌, ◌⊎◌, List, [], ◌∷◌, ◌++◌, map, length, get_or, set, is_some as option_is_some, Some, None, Ok, Err, Option, sym, refl, ap, ◌∙◌, subst, inl, inr, arith}
-use Rattle.refusal.specs.declared.Refusal.{Refusal}
-use Rattle.refusal.specs.declared.Refusal.TheVariants.{NothingWaits}
-use Rattle.std.proofs.lemmas.Bool.Decides.{nat_tests}
+use Rattle.std.proofs.Common.{◌≡◌, ℕ, zero, suc, ◌<◌, ◌≤◌, Bool, true, false, cond, eqb, List, [], ◌∷◌, map, length, get_or, set, is_some as option_is_some, Some, None, Ok, sym, refl, ap, ◌∙◌, arith}
 use Rattle.std.proofs.lemmas.Bool.{eq-eqb, lt-ltb, and_parts}
-use Rattle.std.proofs.lemmas.List.{get_or_past, length-map}
+use Rattle.std.proofs.lemmas.List.{get_or_past}
 use Rattle.store.specs.declared.hand.InHand.{InHand}
-use Rattle.store.specs.declared.hand.Put.TheVariants.{Waits, Lost}
 use Rattle.store.specs.declared.chains.Chains.{Chains}
 use Rattle.store.specs.declared.frame.Frame.{Frame}
 use Rattle.store.specs.declared.store.Store.{Store}
@@ -15,11 +11,10 @@ use Rattle.store.specs.Laws.{in_hands}
 use Rattle.store.specs.Chains.{chain, Spots, holdings, first_of, popped, popped_as, pushed}
 use Rattle.store.specs.Spots.{spots}
 use Rattle.store.specs.Contents.{contents, no_frame}
-use Rattle.store.specs.Model.{Model, on_link, wrong_length, put_answer, put_goes, PutInto, token_of, take_answer, take_after, taken_as, in_hand, pass_answer, pass_after, spend_after, octets_answer, waiting_answer}
+use Rattle.store.specs.Model.{Model, wrong_length, put_goes, PutInto, take_after, taken_as, in_hand, pass_after, spend_after}
 use Rattle.store.specs.Stores.{model}
 use Rattle.store.specs.View.{lane, lane_answer, queued_at, hands_of, model_of}
-use Rattle.store.proofs.Lanes.{There, found, on_link_lem, is_link_lem}
-use Rattle.store.proofs.Moves.{held_below}
+use Rattle.store.proofs.Lanes.{There, found, is_link_lem}
 use Rattle.store.proofs.Standing.{change_here, sum_same}
 use Rattle.store.proofs.Views.{Beyond, put_model, take_model, pass_model, end_model, free_at, x_below}
 

@@ -1,5 +1,5 @@
 -- No place stands twice, and all 128 are somewhere.
-use Rattle.std.proofs.Common.{◌≡◌, ℕ, zero, suc, ◌+◌, ◌-◌, ◌<◌, ◌≤◌, Bool, true, false, cond, not, ◌&&◌, ◌||◌, eqb, ltb, leb, ◌≢◌, ◌⊎◌, List, [], ◌∷◌, ◌++◌, map, length, is_some, Some, None, Ok, Err, Option, sym, refl, ap, ◌∙◌, subst, inl, inr, arith}
+use Rattle.std.proofs.Common.{◌≡◌, ℕ, zero, suc, ◌+◌, ◌<◌, ◌≤◌, Bool, true, false, cond, ◌&&◌, eqb, ltb, leb, List, [], ◌∷◌, ◌++◌, length, is_some, Some, None, Ok, Err, Option, sym, refl, ap, ◌∙◌, subst, inl, inr, arith}
 use Rattle.std.proofs.lemmas.Bool.Decides.{nat_tests}
 use Rattle.std.proofs.lemmas.Bool.{cond_both, cases_eq, and_parts}
 use Rattle.std.proofs.lemmas.List.{map_push, length_push}
@@ -7,7 +7,7 @@ use Rattle.store.specs.declared.hand.InHand.{InHand}
 use Rattle.refusal.specs.declared.Refusal.TheVariants.{FrameSize, NoSuchLink, NoSuchDirection}
 use Rattle.store.specs.declared.hand.Put.TheVariants.{Waits, Lost}
 use Rattle.store.specs.Counting.{change, change2, count, one, sum_to}
-use Rattle.store.specs.Model.{Queued, queued, Model, fresh, is_link, wrong_length, put_answer, put_goes, put_in, places, FreeAt, taken_as, in_hand, passed_as, freed, over_queues, waiting_in}
+use Rattle.store.specs.Model.{Queued, queued, Model, is_link, wrong_length, put_goes, put_in, places, FreeAt, taken_as, in_hand, passed_as, freed, over_queues}
 use Rattle.store.specs.Laws.{Call, puts, takes, passes, spends, step, run, Fits, Allowed, hands_to, in_hands, AllPlaces, NoneTwice, FindsRoom}
 use Rattle.store.proofs.Standing.{one_few, sum_none, sum_change, one_le, count_push, change_here, change_there}
 

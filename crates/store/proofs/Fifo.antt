@@ -1,12 +1,10 @@
 -- First in, first out.
-use Rattle.std.proofs.Common.{◌≡◌, ℕ, zero, suc, ◌+◌, ◌-◌, ◌<◌, ◌≤◌, Bool, true, false, cond, not, ◌&&◌, ◌||◌, eqb, ltb, leb, List, [], ◌∷◌, ◌++◌, map, Some, None, Option, sym, refl, ap, ◌∙◌, subst, append_assoc, arith}
-use Rattle.std.proofs.lemmas.Bool.Decides.{nat_tests}
-use Rattle.std.proofs.lemmas.Bool.{cond_both, eqb-true, and_parts}
+use Rattle.std.proofs.Common.{◌≡◌, ℕ, Bool, true, false, cond, ◌&&◌, eqb, List, [], ◌∷◌, ◌++◌, Some, None, Option, sym, refl, ap, ◌∙◌, append_assoc}
+use Rattle.std.proofs.lemmas.Bool.{eqb-true, and_parts}
 use Rattle.std.proofs.lemmas.List.{map_push, append-nil}
-use Rattle.store.specs.declared.hand.InHand.{InHand}
-use Rattle.store.specs.Counting.{change, change2}
-use Rattle.store.specs.Model.{Queued, queued, Model, is_link, put_goes, put_in, put_after, taken_as, take_after, in_hand, passed_as, pass_after, freed, spend_after}
-use Rattle.store.specs.Laws.{Call, puts, takes, passes, spends, step, run, contents_of, listed, first_in, brings, draws, all_brought, all_drawn, FirstOut}
+use Rattle.store.specs.Counting.{change2}
+use Rattle.store.specs.Model.{Queued, queued, Model, is_link, put_goes, put_in, taken_as, in_hand, passed_as, freed}
+use Rattle.store.specs.Laws.{Call, puts, takes, passes, spends, step, run, contents_of, listed, first_in, brings, draws, all_drawn, FirstOut}
 
 -- a frame joins one queue
 joined : (i j l d : ℕ) (q : ℕ → ℕ → List Queued) (x : Queued) → contents_of (q l d) ++ cond (eqb i l && eqb j d) (x.octets ∷ []) [] ≡ contents_of (change2 i j (q i j ++ x ∷ []) q l d)

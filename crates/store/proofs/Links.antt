@@ -1,8 +1,7 @@
-use Rattle.std.proofs.Common.{◌≡◌, ℕ, zero, suc, ◌+◌, ◌<◌, ◌≤◌, Bool, true, false, cond, eqb, ltb, ◌≢◌, ◌⊎◌, List, [], ◌∷◌, ◌++◌, length, get_or, set, sym, refl, ap, ◌∙◌, subst, inl, inr, arith, get_or-set_other, get_or-set_same}
+use Rattle.std.proofs.Common.{◌≡◌, ℕ, zero, suc, ◌<◌, ◌≤◌, ◌≢◌, List, [], ◌∷◌, ◌++◌, length, get_or, set, refl, ap, arith, get_or-set_other, get_or-set_same}
 use Rattle.std.proofs.lemmas.Bool.Decides.{nat_tests}
-use Rattle.std.proofs.lemmas.Bool.{cases_eq}
-use Rattle.store.specs.Chains.{chain, list_of, last_or}
-use Rattle.store.specs.Counting.{count, one, sum_to}
+use Rattle.store.specs.Chains.{chain, last_or}
+use Rattle.store.specs.Counting.{count}
 
 pub count_last : (t h : ℕ) (xs : List ℕ) → last_or h xs ≡ t → 1 ≤ count t (h ∷ xs)
 count_last t h [] e = grind (arith, nat_tests)

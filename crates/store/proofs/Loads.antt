@@ -1,12 +1,12 @@
 -- Each call does to a store without its places what its definition says.
-use Rattle.std.proofs.Common.{◌≡◌, ℕ, ◌+◌, ◌-◌, Bool, true, false, cond, not, ◌&&◌, eqb, ltb, List, [], ◌∷◌, ◌++◌, Some, None, Option, sym, refl, ap, ◌∙◌}
+use Rattle.std.proofs.Common.{◌≡◌, ℕ, ◌-◌, Bool, true, false, cond, ◌&&◌, eqb, List, [], ◌∷◌, ◌++◌, Some, refl, ap, ◌∙◌}
 use mathlib.Core.Path.{fun_ext}
 use Rattle.std.proofs.lemmas.List.{map_push}
 use Rattle.store.specs.declared.hand.InHand.{InHand}
 use Rattle.store.specs.Counting.{change2}
 use Rattle.store.specs.Laws.{contents_of}
-use Rattle.store.specs.Loads.{Load, load, load_of, joins, put_load, leaves, take_load, pass_load, spend_load}
-use Rattle.store.specs.Model.{Queued, queued, Model, is_link, put_goes, put_in, put_after, taken_as, take_after, in_hand, passed_as, pass_after, freed, spend_after}
+use Rattle.store.specs.Loads.{load, load_of, joins, put_load, leaves, take_load, pass_load, spend_load}
+use Rattle.store.specs.Model.{Queued, queued, Model, is_link, put_goes, put_in, put_after, taken_as, take_after, in_hand, passed_as, pass_after, spend_after}
 
 load_same : (n f : ℕ) (q r : ℕ → ℕ → List (List ℕ)) → ((l d : ℕ) → q l d ≡ r l d) → load n f q ≡ load n f r
 load_same n f q r e = ap (load n f) (fun_ext (λ l. fun_ext (e l)))

@@ -1,16 +1,16 @@
 -- What the arrays stand for after a move.
-use Rattle.std.proofs.Common.{◌≡◌, ℕ, zero, suc, ◌+◌, ◌-◌, ◌%◌, ◌<◌, ◌≤◌, Bool, true, false, cond, eqb, ltb, ◌≢◌, ◌⊎◌, List, [], ◌∷◌, ◌++◌, length, get_or, set, Some, None, sum_by, sym, refl, ap, ◌∙◌, subst, inl, inr, arith, length-set, get_or-set_other, get_or-set_same}
+use Rattle.std.proofs.Common.{◌≡◌, ℕ, zero, suc, ◌+◌, ◌-◌, ◌%◌, ◌<◌, ◌≤◌, Bool, true, false, ltb, ◌≢◌, ◌⊎◌, List, [], ◌∷◌, ◌++◌, length, get_or, set, sum_by, sym, refl, ap, ◌∙◌, subst, inl, inr, arith, length-set, get_or-set_other, get_or-set_same}
 use mathlib.Core.Path.{fun_ext}
 use Rattle.std.proofs.lemmas.Bool.Decides.{nat_tests}
 use Rattle.std.proofs.lemmas.Bool.{cases_eq, cases_lt}
 use Rattle.std.proofs.lemmas.List.{get_or_past}
-use Rattle.std.proofs.lemmas.List.Sums.{sum_by-set, get_or-le-sum_by}
-use Rattle.store.specs.Chains.{chain, list_of, last_or, Spots, spots_of, OnceEach, EndAt, total, first_of, popped, pushed}
+use Rattle.std.proofs.lemmas.List.Sums.{sum_by-set}
+use Rattle.store.specs.Chains.{chain, list_of, last_or, Spots, spots_of, EndAt, total, popped, pushed}
 use Rattle.store.specs.Counting.{change, count, one}
 use Rattle.store.specs.Spots.{spots}
 use Rattle.store.specs.declared.chains.Chains.{Chains}
 use Rattle.store.proofs.Links.{chain_away, chain_push, count_last}
-use Rattle.store.proofs.Standing.{one_few, change_here, change_there, within, apart, pop_once, pop_ends, push_once, push_ends}
+use Rattle.store.proofs.Standing.{one_few, change_here, change_there, within, apart, push_ends}
 
 abbrev mk : (ℕ → List ℕ) → (ℕ → Bool) → Spots
 mk l h = record { lanes = l; hand = h }
@@ -70,9 +70,6 @@ module _ (s : Chains) where
       head_free : one (get_or s.held (get_or s.heads q 0) false) ≡ 0
       head_free = omega (arith, head_in, within (spots s) s.once q (get_or s.heads q 0) l, one_few (ltb (get_or s.heads q 0) 128))
 
-      pub popped_place : Some (get_or s.heads q 0) ≡ first_of ((spots s).lanes q)
-      popped_place = sym (ap first_of (chain_cons s.next (get_or s.heads q 0) (get_or s.lens q 0) ne))
-
       pub pop_after : spots_of s.next (set s.heads q (get_or s.next (get_or s.heads q 0) 0)) (set s.lens q (get_or s.lens q 0 - 1)) (set s.held (get_or s.heads q 0) true) ≡ popped q (spots s)
       pop_after =
           let e = chain_cons s.next (get_or s.heads q 0) (get_or s.lens q 0) ne in
@@ -111,12 +108,6 @@ module _ (s : Chains) where
   module _ (q p : ℕ) (l : q < 101) (up : (spots s).hand p ≡ true) where
     held_one : one (get_or s.held p false) ≡ 1
     held_one = ap one up
-
-    pub push_few : get_or s.lens q 0 < 128
-    push_few =
-        let i : q < length s.lens = omega (arith, s.many) in
-        let j : p < length s.held = omega (arith, s.hands, held_below p up) in
-        omega (arith, s.all, held_one, get_or-le-sum_by (λ x. x) s.lens q 0 i, get_or-le-sum_by one s.held p false j)
 
     pub push_total : total (set s.lens q (get_or s.lens q 0 + 1)) (set s.held p false) ≡ 128
     push_total = total_moved q (get_or s.lens q 0 + 1) p false l (held_below p up) (omega (arith, held_one))

@@ -1,11 +1,9 @@
 -- A new store: every place stands in the free list.
-use Rattle.std.proofs.Common.{◌≡◌, ℕ, zero, suc, ◌+◌, ◌-◌, ◌<◌, ◌≤◌, Bool, true, false, cond, eqb, ltb, leb, ◌≢◌, ◌⊎◌, List, [], ◌∷◌, ◌++◌, length, get_or, set, replicate, sym, refl, ap, ◌∙◌, subst, inl, inr, arith, length-set}
-use mathlib.Core.Path.{fun_ext}
+use Rattle.std.proofs.Common.{◌≡◌, ℕ, zero, suc, ◌+◌, ◌<◌, ◌≤◌, false, cond, ltb, ◌≢◌, List, [], ◌∷◌, get_or, set, replicate, refl, ap, arith}
 use Rattle.std.proofs.lemmas.Bool.Decides.{nat_tests}
-use Rattle.std.proofs.lemmas.Bool.{cases_eq, cases_lt}
-use Rattle.store.specs.Chains.{chain, list_of, last_or, Spots, standing, standing_in, OnceEach, EndAt, spots_of, Once, Ends, total, up_from, every_place, all_free}
-use Rattle.store.specs.Counting.{change, count, one, sum_to}
-use Rattle.store.proofs.Standing.{sum_none, sum_change, change_here, change_there}
+use Rattle.store.specs.Chains.{chain, list_of, last_or, standing, standing_in, OnceEach, EndAt, spots_of, up_from, every_place, all_free}
+use Rattle.store.specs.Counting.{change, count, one}
+use Rattle.store.proofs.Standing.{sum_none, sum_change, change_there}
 use Rattle.store.proofs.Moves.{spots_same}
 
 count_up : (p h k : ℕ) → count p (up_from h k) ≡ cond (ltb p h) 0 (one (ltb p (h + k)))

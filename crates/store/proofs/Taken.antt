@@ -1,11 +1,11 @@
 -- A frame just taken is in hand, and no call refuses it as not in hand.
-use Rattle.std.proofs.Common.{◌≡◌, ℕ, ◌<◌, Bool, true, false, cond, not, ◌&&◌, eqb, ltb, leb, List, [], ◌∷◌, Some, None, Ok, Err, Result, sym, refl, ap, ◌∙◌, arith}
+use Rattle.std.proofs.Common.{◌≡◌, ℕ, ◌<◌, Bool, true, false, cond, not, List, [], ◌∷◌, Some, Ok, Err, Result, refl, ap, ◌∙◌}
 use Rattle.refusal.specs.declared.Refusal.{Refusal}
 use Rattle.refusal.specs.declared.Refusal.TheVariants.{NothingWaits, NotInHand}
 use Rattle.std.proofs.lemmas.Bool.{eq-eqb}
 use Rattle.store.specs.declared.hand.InHand.{InHand}
 use Rattle.store.specs.Laws.{listed, first_in}
-use Rattle.store.specs.Model.{Model, Queued, is_link, on_link, refuses, handed_back, token_of, take_answer, take_after, taken_as, in_hand, pass_answer, spend_answer, put_goes, put_in, put_after}
+use Rattle.store.specs.Model.{Model, Queued, is_link, refuses, handed_back, token_of, take_answer, take_after, taken_as, in_hand, pass_answer, spend_answer, put_goes, put_in, put_after}
 use Rattle.store.proofs.Lanes.{ok_err, there, on_link_lem, is_link_lem}
 use Rattle.store.proofs.Standing.{change_here}
 

@@ -1,13 +1,13 @@
 -- What a move does to the model.
-use Rattle.std.proofs.Common.{◌≡◌, ℕ, zero, suc, ◌+◌, ◌-◌, ◌*◌, ◌<◌, ◌≤◌, Bool, true, false, cond, not, ◌&&◌, ◌||◌, eqb, ltb, leb, ◌≢◌, ◌⊎◌, List, [], ◌∷◌, ◌++◌, map, length, get_or, set, Some, None, Option, sym, refl, ap, ◌∙◌, subst, inl, inr, arith, length-append, get_or-set_other, get_or-set_same}
+use Rattle.std.proofs.Common.{◌≡◌, ℕ, ◌-◌, ◌<◌, ◌≤◌, Bool, true, false, cond, ◌&&◌, eqb, ltb, ◌≢◌, List, [], ◌∷◌, ◌++◌, map, length, get_or, set, Some, None, Option, refl, ap, ◌∙◌, inl, inr, arith, get_or-set_other, get_or-set_same}
 use mathlib.Core.Path.{fun_ext}
 use Rattle.std.proofs.lemmas.Bool.Decides.{nat_tests}
-use Rattle.std.proofs.lemmas.Bool.{cases_eq, cases_lt, cases_Bool, lt-ltb, le-ltb}
+use Rattle.std.proofs.lemmas.Bool.{cases_eq, cases_lt, lt-ltb, le-ltb}
 use Rattle.std.proofs.lemmas.List.{map_push, length_push}
-use Rattle.store.specs.Chains.{Spots, OnceEach, popped, popped_as, pushed, all_free}
+use Rattle.store.specs.Chains.{Spots, OnceEach, popped_as, pushed, all_free}
 use Rattle.store.specs.Counting.{change, change2, count, one}
 use Rattle.store.specs.Contents.{contents, no_frame}
-use Rattle.store.specs.Model.{Queued, queued, Model, mk_model, fresh, put_in, FreeAt, places, taken_as, passed_as, freed}
+use Rattle.store.specs.Model.{Queued, queued, mk_model, fresh, put_in, FreeAt, places, taken_as, passed_as, freed}
 use Rattle.store.specs.View.{lane, queued_at, queues_of, hands_of, model_of}
 use Rattle.store.specs.declared.frame.Frame.{Frame}
 use Rattle.store.proofs.Standing.{change_here, change_there, within, apart}

@@ -1,5 +1,5 @@
 -- Laws over every sequence of calls on a new store.
-use Rattle.std.specs.Prelude.{◌≡◌, ℕ, ◌+◌, ◌<◌, ◌≤◌, Bool, true, false, cond, ◌&&◌, List, [], ◌∷◌, ◌++◌, map, is_some, Some, None, Ok, Option, ◌==◌, nat_lt}
+use Rattle.std.specs.Prelude.{◌≡◌, ℕ, ◌+◌, ◌<◌, ◌≤◌, true, false, cond, ◌&&◌, List, [], ◌∷◌, ◌++◌, map, is_some, Some, None, Ok, Option, ◌==◌, nat_lt}
 use Rattle.store.specs.declared.hand.InHand.{InHand}
 use Rattle.store.specs.declared.hand.Put.TheVariants.{Waits}
 use Rattle.store.specs.Counting.{sum_to, one, count}

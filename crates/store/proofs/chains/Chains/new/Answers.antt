@@ -1,4 +1,4 @@
-use Rattle.std.proofs.Common.{get_or, set, replicate, sym, refl, ◌∙◌, subst}
+use Rattle.std.proofs.Common.{get_or, set, replicate, sym, refl, subst}
 use Rattle.store.specs.Chains.{Spots, OnceEach, EndAt}
 use Rattle.store.proofs.Start.{start_once, start_after, start_ends}
 use Rattle.store.proofs.chains.Chains.new.Goals as goal

@@ -2,7 +2,7 @@ use Rattle.std.proofs.Common.{get_or, sym, ◌∙◌, subst, arith, length-set}
 use Rattle.store.specs.Chains.{Spots, OnceEach, EndAt}
 use Rattle.store.specs.Spots.{spots}
 use Rattle.store.proofs.Standing.{pop_once, pop_ends}
-use Rattle.store.proofs.Moves.{head_below, popped_place, pop_after, pop_total, pop_counted}
+use Rattle.store.proofs.Moves.{head_below, pop_after, pop_total, pop_counted}
 use Rattle.store.proofs.chains.Chains.pop.Goals as goal
 
 pub bounds-self-place : goal.bounds-self-place

@@ -1,8 +1,8 @@
-use Rattle.std.proofs.Common.{◌≡◌, get_or, set, sym, ap, ◌∙◌, subst, inl, inr, arith, length-set}
+use Rattle.std.proofs.Common.{get_or, set, sym, ap, ◌∙◌, subst, inl, inr, arith, length-set}
 use Rattle.store.specs.Chains.{Spots, OnceEach, EndAt}
 use Rattle.store.specs.Spots.{spots}
 use Rattle.store.proofs.Standing.{push_once}
-use Rattle.store.proofs.Moves.{tail_below, held_below, push_few, push_total, push_counted, Way, push_after, way_lengths, push_ends_at}
+use Rattle.store.proofs.Moves.{tail_below, push_total, push_counted, Way, push_after, way_lengths, push_ends_at}
 use Rattle.store.proofs.chains.Chains.push.Goals as goal
 use Rattle.store.proofs.chains.Chains.push.Goals.{then-len-eq0, else-len-eq0}
 
