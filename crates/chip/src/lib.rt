@@ -1,10 +1,9 @@
 // The plain chip: it learns no address, and keeps both port states in one octet.
 #![tactic(auto)]
 
-ghost use Rattle.std.specs.Prelude.{◌≡◌, [], refl};
+ghost use Rattle.std.specs.Prelude.{◌≡◌};
 ghost use Rattle.switch.specs.Ports.{state_number};
-ghost use Rattle.chip.specs.Octet.{state_of, chip_meaning};
-ghost use Rattle.std.proofs.Common.{arith};
+ghost use Rattle.chip.specs.Octet.{state_of, chip_meaning, chip_sound};
 
 use refusal::Refusal;
 use switch::{Address, Port, PortState, Switch};
@@ -41,7 +40,7 @@ impl Switch for PlainChip {
 
     ghost limit = { 0 };
 
-    ghost sound = { λ s. record { few = omega arith; real = λ a h. refl; listed = ∣ ([], record { once = refl; many = refl; all = λ a. refl }) ∣₁ } };
+    ghost sound = { λ s. chip_sound s.states };
 
     fn new() -> Self {
         PlainChip { states: 0x11 }
