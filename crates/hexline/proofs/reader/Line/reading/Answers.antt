@@ -5,8 +5,8 @@ use Rattle.hexline.specs.Meaning.{front}
 use Rattle.hexline.proofs.Steps.{all_kept, nothing_open}
 use Rattle.hexline.proofs.reader.Line.reading.Goals as goal
 
-pub returns-in-default : goal.returns-in-default
-returns-in-default c =
+pub returns-in_default : goal.returns-in_default
+returns-in_default c =
     let line = c.args.self.now in
     let some : 0 < length (front line) = search rules in
     let few : length (front line) ≤ 61 = search rules in
