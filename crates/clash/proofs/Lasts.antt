@@ -1,4 +1,4 @@
--- The last place at which a test holds: the laws of `lastBelow`.
+-- The last place at which a test holds: the laws of `last_below`.
 use Rattle.std.proofs.Common.{◌≡◌, ℕ, zero, suc, ◌<◌, ◌≤◌, Bool, true, false, refl, ◌∙◌, inl, inr, arith}
 use Rattle.clash.specs.Places.{last_below}
 use Rattle.std.proofs.lemmas.Bool.{cases_Bool, both_ways}

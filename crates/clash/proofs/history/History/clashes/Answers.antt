@@ -14,26 +14,26 @@ index-requires c = omega (arith, ltb-true c.args.j (length (frames_of c.args.sel
 pub loop-at-init : goal.loop-at-init
 loop-at-init c = trail_start c.args.self.now c.if-not-holds.ensures c.index.ensures c.clear.ensures.items
 
-pub is-past-requires : goal.is-past-requires
-is-past-requires c = ranks_ordered (turn c.args.self.now c.if-not-holds.ensures c.index.ensures c.in-Some.is c.loop-at.invariant c.index-in-Some.ensures)
+pub is_past-requires : goal.is_past-requires
+is_past-requires c = ranks_ordered (turn c.args.self.now c.if-not-holds.ensures c.index.ensures c.in-Some.is c.loop-at.invariant c.index-in-Some.ensures)
 
-pub returns-then-is-past : goal.returns-then-is-past
-returns-then-is-past c =
+pub returns-then-is_past : goal.returns-then-is_past
+returns-then-is_past c =
     let t = turn c.args.self.now c.if-not-holds.ensures c.index.ensures c.in-Some.is c.loop-at.invariant c.index-in-Some.ensures in
-    lines_all c.args.self.now c.args.j c.if-not-holds.ensures (trail_past t c.if-is-past.ensures)
+    lines_all c.args.self.now c.args.j c.if-not-holds.ensures (trail_past t c.if-is_past.ensures)
 
-pub other-than-at-requires : goal.other-than-at-requires
-other-than-at-requires c = previous_found (turn c.args.self.now c.if-not-holds.ensures c.index.ensures c.in-Some.is c.loop-at.invariant c.index-in-Some.ensures)
+pub other_than-at-requires : goal.other_than-at-requires
+other_than-at-requires c = previous_found (turn c.args.self.now c.if-not-holds.ensures c.index.ensures c.in-Some.is c.loop-at.invariant c.index-in-Some.ensures)
 
 pub loop-at-smaller : goal.loop-at-smaller
 loop-at-smaller c =
     let t = turn c.args.self.now c.if-not-holds.ensures c.index.ensures c.in-Some.is c.loop-at.invariant c.index-in-Some.ensures in
-    omega (arith, trail_falls t (spot c.other-than-at.result) c.other-than-at.ensures, ap spot c.in-Some.is)
+    omega (arith, trail_falls t (spot c.other_than-at.result) c.other_than-at.ensures, ap spot c.in-Some.is)
 
 pub loop-at-preserved : goal.loop-at-preserved
 loop-at-preserved c =
     let t = turn c.args.self.now c.if-not-holds.ensures c.index.ensures c.in-Some.is c.loop-at.invariant c.index-in-Some.ensures in
-    trail_step t (spot c.other-than-at.result) c.other-than-at.ensures c.if-is-past.ensures (vec_items c.push.new.self) c.in-ok-push.ensures.items
+    trail_step t (spot c.other_than-at.result) c.other_than-at.ensures c.if-is_past.ensures (vec_items c.push.new.self) c.in_ok-push.ensures.items
 
 pub returns : goal.returns
-returns c = lines_all c.args.self.now c.args.j c.if-not-holds.ensures (trail_end (frames_of c.args.self.now) c.args.j c.loop-at.at (vec_items c.loop-at.lines) c.in-default.is c.loop-at.invariant)
+returns c = lines_all c.args.self.now c.args.j c.if-not-holds.ensures (trail_end (frames_of c.args.self.now) c.args.j c.loop-at.at (vec_items c.loop-at.lines) c.in_default.is c.loop-at.invariant)

@@ -7,8 +7,8 @@ use Rattle.clash.proofs.Lasts.{last_found}
 use Rattle.clash.proofs.Tests.{other_within}
 use Rattle.clash.proofs.history.History.described.Goals as goal
 
-pub other-than-other-requires : goal.other-than-other-requires
-other-than-other-requires c i e = last_found (λ k. same_number (shown c.args.s) (frame_at (frames_of c.args.self.now) k)) (length (frames_of c.args.self.now)) i (sym c.previous-of-previous.ensures ∙ e)
+pub other_than-other-requires : goal.other_than-other-requires
+other_than-other-requires c i e = last_found (λ k. same_number (shown c.args.s) (frame_at (frames_of c.args.self.now) k)) (length (frames_of c.args.self.now)) i (sym c.previous_of-previous.ensures ∙ e)
 
 pub returns : goal.returns
 returns c =
@@ -16,7 +16,7 @@ returns c =
     let s = shown c.args.s in
     record {
       frame = refl;
-      rank = c.rank-of-rank.ensures;
-      previous = c.previous-of-previous.ensures;
-      other = c.other-than-other.ensures ∙ ap (last_below (λ k. other_kind s (frame_at es k))) c.previous-of-previous.ensures ∙ sym (other_within es s (length es));
+      rank = c.rank_of-rank.ensures;
+      previous = c.previous_of-previous.ensures;
+      other = c.other_than-other.ensures ∙ ap (last_below (λ k. other_kind s (frame_at es k))) c.previous_of-previous.ensures ∙ sym (other_within es s (length es));
     }

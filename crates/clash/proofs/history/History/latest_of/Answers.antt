@@ -11,4 +11,4 @@ use Rattle.clash.proofs.history.History.latest_of.Goals as goal
 pub returns : goal.returns
 returns c =
     let h = c.args.self.now in
-    c.latest.ensures ∙ looked_up sender_key same_sender (keys h.senders) (frames_of h) (key_octets c.sender-key.result) (shown c.args.s) (λ e. refl) h.sent c.sender-key.ensures
+    c.latest.ensures ∙ looked_up sender_key same_sender (keys h.senders) (frames_of h) (key_octets c.sender_key.result) (shown c.args.s) (λ e. refl) h.sent c.sender_key.ensures

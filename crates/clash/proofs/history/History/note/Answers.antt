@@ -11,25 +11,25 @@ use Rattle.clash.proofs.Lasts.{last_same}
 use Rattle.clash.proofs.Records.{noted_len, noted_push, seen_push, keys_follow}
 use Rattle.clash.proofs.history.History.note.Goals as goal
 
-pub invariant-of-self : goal.invariant-of-self
-invariant-of-self c =
+pub invariant_of-self : goal.invariant_of-self
+invariant_of-self c =
     let h = c.reserve.new.self in
     let r = c.described-noted.result in
     let d = c.described-noted.ensures in
     let s = shown c.args.s in
     let ns = vec_items h.noted in
-    let ns' = vec_items c.push-reserved.new.self in
-    let e = c.push-reserved.ensures.items in
+    let ns' = vec_items c.push_reserved.new.self in
+    let e = c.push_reserved.ensures.items in
     let es = seen_push ns ns' r s e d.frame in
     let ranked = noted_push count count_same same_sender (λ (n : Noted). n.rank) ns ns' r s e d.frame d.rank h.ranked in
     let preceded = noted_push last_below last_same same_number (λ (n : Noted). spot n.previous) ns ns' r s e d.frame d.previous h.preceded in
     let differed = noted_push last_below last_same other_kind (λ (n : Noted). spot n.other) ns ns' r s e d.frame d.other h.differed in
-    let sent = keys_follow sender_key (keys h.senders) (keys c.add.new.self) (seen_in ns) (seen_in ns') (key_octets c.sender-key.result) s h.sent c.add.ensures c.sender-key.ensures es in
-    let numbered = keys_follow number_key (keys h.numbers) (keys c.add-2.new.self) (seen_in ns) (seen_in ns') (key_octets c.number-key.result) s h.numbered c.add-2.ensures c.number-key.ensures es in
-    (noted_len c.push-reserved.new.self, (ranked, (preceded, (differed, (sent, (numbered, tt))))))
+    let sent = keys_follow sender_key (keys h.senders) (keys c.add.new.self) (seen_in ns) (seen_in ns') (key_octets c.sender_key.result) s h.sent c.add.ensures c.sender_key.ensures es in
+    let numbered = keys_follow number_key (keys h.numbers) (keys c.add-2.new.self) (seen_in ns) (seen_in ns') (key_octets c.number_key.result) s h.numbered c.add-2.ensures c.number_key.ensures es in
+    record { long = noted_len c.push_reserved.new.self; ranked = ranked; preceded = preceded; differed = differed; sent = sent; numbered = numbered }
 
 pub returns : goal.returns
 returns c =
     let s = shown c.args.s in
-    seen_push (vec_items c.reserve.new.self.noted) (vec_items c.push-reserved.new.self) c.described-noted.result s c.push-reserved.ensures.items c.described-noted.ensures.frame
+    seen_push (vec_items c.reserve.new.self.noted) (vec_items c.push_reserved.new.self) c.described-noted.result s c.push_reserved.ensures.items c.described-noted.ensures.frame
     ∙ ap (λ (es : List Seen). es ++ s ∷ []) c.reserve.ensures.same

@@ -11,4 +11,4 @@ use Rattle.clash.proofs.history.History.previous_of.Goals as goal
 pub returns : goal.returns
 returns c =
     let h = c.args.self.now in
-    c.latest.ensures ∙ looked_up number_key same_number (keys h.numbers) (frames_of h) (key_octets c.number-key.result) (shown c.args.s) (λ e. refl) h.numbered c.number-key.ensures
+    c.latest.ensures ∙ looked_up number_key same_number (keys h.numbers) (frames_of h) (key_octets c.number_key.result) (shown c.args.s) (λ e. refl) h.numbered c.number_key.ensures

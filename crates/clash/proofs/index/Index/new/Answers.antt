@@ -7,8 +7,8 @@ only_none : (P : Option ℕ → Type 0) → ((x : ℕ) → P (Some x) → ⊥) �
 only_none P h None p = refl
 only_none P h (Some x) p = absurd (h x p)
 
-pub invariant-of-result : goal.invariant-of-result
-invariant-of-result c =
-    let v = c.in-ok-heads.ensures in
+pub invariant_of-result : goal.invariant_of-result
+invariant_of-result c =
+    let v = c.in_ok-heads.ensures in
     let e = c.new.ensures.items in
-    (v.len, (linked_none (vec_items c.new.result) e, (headed_none (vec_items c.new.result) (vec_items c.in-ok-heads.heads) 262144 e (v.items-if-clones-equal (only_none _ (λ x p. p))), tt)))
+    record { whole = v.len; linked = linked_none (vec_items c.new.result) e; headed = headed_none (vec_items c.new.result) (vec_items c.in_ok-heads.heads) 262144 e (v.items_if_clones_equal (only_none _ (λ x p. p))) }
