@@ -1,5 +1,5 @@
 -- Two frames in hand that one store cannot tell apart are in hand at the same place.
-use Rattle.std.proofs.Common.{◌≡◌, ℕ, Bool, true, false, eqb, is_some, None, Ok, Err, Result, sym, refl, ap, ◌∙◌, inl, inr, arith}
+use Rattle.std.proofs.Common.{◌≡◌, ℕ, true, false, eqb, is_some, None, Ok, Err, Result, sym, ap, ◌∙◌, inl, inr}
 use Rattle.refusal.specs.declared.Refusal.TheVariants.{NotInHand}
 use Rattle.std.proofs.lemmas.Bool.{true≢false, cases_Bool, cases_eq, and_parts, eqb-true}
 use Rattle.store.specs.declared.hand.HandedBack.{HandedBack}
