@@ -11,7 +11,7 @@ use Rattle.switch.specs.Addresses.{is_address, is_group}
 use Rattle.switch.specs.Meanings.{Meaning, Sound, is_some}
 use Rattle.switch.specs.Calls.{learn_answer, learned, is_full, with_pair}
 use Rattle.switch.specs.Laws.{Found, WithinRoom, SameAnswers, SamePorts}
-use Rattle.switch.proofs.Same.{same_self, other_way}
+use Rattle.switch.proofs.Same.{same_self, either_way}
 use Rattle.switch.proofs.Different.{no_more}
 
 same_ports : (a : List ℕ) (p : Port) (m : Meaning) → SamePorts m (with_pair a p m)
@@ -21,7 +21,7 @@ same_ports a p m Two = refl
 found_by : (group full : Bool) (a : List ℕ) (p : Port) (m : Meaning) → Found a p m (cond group m (cond full m (with_pair a p m))) (cond group (Err GroupAddress) (cond full (Err TableFull) (Ok tt)))
 found_by true full a p m = refl
 found_by false true a p m = refl
-found_by false false a p m = (rw (same_self a), (λ b h. rw (other_way b a h)), same_ports a p m)
+found_by false false a p m = (rw (same_self a), (λ b h. rw (either_way a b, h)), same_ports a p m)
 
 pub learning_found : (k : ℕ) (a : List ℕ) (p : Port) (m : Meaning) → Found a p m (learned k a p m) (learn_answer k a m)
 learning_found k a p m = found_by (is_group a) (is_full k (m.known a) m.count) a p m

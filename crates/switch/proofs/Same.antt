@@ -20,5 +20,5 @@ first_apart false r h = refl
 pub rest_apart : (b r : Bool) → not b && r ≡ true → r ≡ true
 rest_apart b r h = (and_parts (not b) r h).1
 
-pub other_way : (a b : List ℕ) → bytes_eq a b ≡ false → bytes_eq b a ≡ false
-other_way a b h = grind (arith, bytes_eq-Decides)
+pub either_way : (a b : List ℕ) → bytes_eq a b ≡ bytes_eq b a
+either_way a b = grind (arith, bytes_eq-Decides)

@@ -1,9 +1,8 @@
 // A switch with a table of 64 entries, of which the first `len` are in use.
-ghost use Rattle.std.specs.Prelude.{◌≡◌, ◌≤◌, true, length, take, refl};
-ghost use Rattle.std.proofs.Common.{sym, length-take-le, arith};
+ghost use Rattle.std.specs.Prelude.{◌≡◌, ◌≤◌, true, length, take};
 ghost use Rattle.switch.specs.Addresses.{apart};
 ghost use Rattle.table.specs.Entries.{table_meaning, addresses, are_addresses, Place};
-ghost use Rattle.table.specs.Tables.{table_counted, only_real};
+ghost use Rattle.table.specs.Owed.{table_sound};
 
 use crate::entry::Entry;
 use refusal::Refusal;
@@ -42,7 +41,7 @@ impl Switch for TableSwitch {
 
     ghost limit = { 64 };
 
-    ghost sound = { λ s. record { few = s.few; real = only_real _ s.real; listed = ∣ (_, table_counted _ _ s.once (sym (length-take-le s.len s.entries (omega arith))) (λ a. refl)) ∣₁ } };
+    ghost sound = { λ s. table_sound s.first s.second s.entries s.len s.whole s.few s.real s.once };
 
     fn new() -> Self {
         let unused = Entry {

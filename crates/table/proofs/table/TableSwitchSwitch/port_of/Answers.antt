@@ -1,9 +1,9 @@
 use Rattle.std.proofs.Common.{take, sym, arith}
-use Rattle.table.specs.Tables.{port_hit_of, port_none, hit_index}
+use Rattle.table.proofs.Tables.{port_hit_of, port_none, hit_index}
 use Rattle.table.proofs.table.TableSwitchSwitch.port_of.Goals as goal
 
-pub offset-bounds-self-i : goal.offset-bounds-self-i
-offset-bounds-self-i c = omega (arith, hit_index _ c.args.self.now.entries c.args.self.now.len _ c.args.self.now.few c.in-Some.ensures)
+pub offset_bounds-self-i : goal.offset_bounds-self-i
+offset_bounds-self-i c = omega (arith, hit_index _ c.args.self.now.entries c.args.self.now.len _ c.args.self.now.few c.in-Some.ensures)
 
 pub bounds-self-i : goal.bounds-self-i
 bounds-self-i c = hit_index _ c.args.self.now.entries c.args.self.now.len _ c.args.self.now.few c.in-Some.ensures

@@ -1,11 +1,10 @@
 -- The table of a table switch: what a search, a changed entry and an added entry do.
-use Rattle.std.specs.Prelude.{◌≡◌, ℕ, zero, suc, ◌+◌, ◌<◌, ◌≤◌, Bool, true, false, cond, ◌||◌, ◌⊎◌, List, [], ◌∷◌, ◌++◌, length, get_or, take, Some, None, Ok, Err, Option, ◌==◌, slice_index_or, slice_set, refl}
+use Rattle.std.specs.Prelude.{◌≡◌, ℕ, zero, suc, ◌+◌, ◌<◌, ◌≤◌, true, false, cond, ◌⊎◌, List, [], ◌∷◌, ◌++◌, length, get_or, take, Some, None, Ok, Err, Option, ◌==◌, slice_index_or, slice_set, refl}
 use Rattle.std.proofs.Common.{length-take, get_or-take, inl, inr, sym, ◌∙◌, ap, subst, arith}
 use Rattle.std.proofs.Math.Seq.{take-set-lt}
 use Rattle.std.proofs.Math.Path.{fun_ext}
 use Rattle.std.specs.Str.{bytes_eq}
 use Rattle.std.specs.Map.{update}
-use Rattle.std.proofs.lemmas.Slice.Eq.{bytes_eq-Decides}
 use Rattle.std.proofs.lemmas.List.{take_more, take_more_set}
 use Rattle.std.proofs.lemmas.Bool.{eq-eqb, cases_Bool, and_parts, or_parts}
 use Rattle.switch.specs.declared.port.Port.{Port}
@@ -13,17 +12,10 @@ use Rattle.refusal.specs.declared.Refusal.TheVariants.{TableFull}
 use Rattle.switch.specs.declared.port.PortState.{PortState}
 use Rattle.table.specs.declared.entry.Entry.{Entry}
 use Rattle.switch.specs.Addresses.{is_address, is_group, among, apart}
-use Rattle.switch.specs.Meanings.{Meaning, Counted, is_some}
+use Rattle.switch.specs.Meanings.{Meaning}
 use Rattle.switch.specs.Calls.{learned, learn_answer}
-use Rattle.switch.proofs.Same.{clash, same_is, same_self, first_apart, rest_apart}
+use Rattle.switch.proofs.Same.{same_is, same_self, either_way, first_apart, rest_apart}
 use Rattle.table.specs.Entries.{addresses, heard_at, are_addresses, port_in, Hit, table_meaning}
-
-same_flip : (a b : List ℕ) → bytes_eq a b ≡ false → bytes_eq b a ≡ false
-same_flip a b h = go (cases_Bool (bytes_eq b a))
-  where
-    go : (bytes_eq b a ≡ true) ⊎ (bytes_eq b a ≡ false) → bytes_eq b a ≡ false
-    go (inl k) = clash (sym ((bytes_eq-Decides a b).1 (sym (same_is b a k))) ∙ h)
-    go (inr k) = k
 
 -- a search
 among_push : (a : List ℕ) (es : List Entry) (e : Entry) → among a (addresses es) ≡ false → bytes_eq a e.address ≡ false → among a (addresses (es ++ e ∷ [])) ≡ false
@@ -53,8 +45,12 @@ pub port_none : (a : List ℕ) (es : List Entry) → among a (addresses es) ≡ 
 port_none a [] h = refl
 port_none a (x ∷ es) h = rw (or_parts (bytes_eq a x.address) _ h).0 (port_none a es (or_parts (bytes_eq a x.address) _ h).1)
 
+-- the test of the addresses, either way
+as_update : (a q : List ℕ) (f : List ℕ → Option Port) (w : Option Port) → cond (bytes_eq q a) w (f q) ≡ update bytes_eq f a w q
+as_update a q f w = ap (λ b. cond b w (f q)) (either_way q a)
+
 -- a changed entry
-port_set : (a : List ℕ) (es : List Entry) (i : ℕ) (e : Entry) → Hit a es i → bytes_eq a e.address ≡ true → (q : List ℕ) → port_in (slice_set es i e) q ≡ update bytes_eq (port_in es) a (Some e.port) q
+port_set : (a : List ℕ) (es : List Entry) (i : ℕ) (e : Entry) → Hit a es i → bytes_eq a e.address ≡ true → (q : List ℕ) → port_in (slice_set es i e) q ≡ cond (bytes_eq q a) (Some e.port) (port_in es q)
 port_set a [] i e h k q = absurd h
 port_set a (x ∷ es) zero e h k q = rw (sym (same_is a e.address k), sym (same_is a x.address h)) (go (cases_Bool (bytes_eq q a)))
   where
@@ -73,7 +69,7 @@ addresses_set (x ∷ es) zero e d l k = ap (λ a. a ∷ addresses es) (sym k)
 addresses_set (x ∷ es) (suc i) e d l k = ap (λ as'. x.address ∷ as') (addresses_set es i e d (omega arith) k)
 
 -- an added entry
-port_push : (a : List ℕ) (es : List Entry) (e : Entry) → among a (addresses es) ≡ false → e.address ≡ a → (q : List ℕ) → port_in (es ++ e ∷ []) q ≡ update bytes_eq (port_in es) a (Some e.port) q
+port_push : (a : List ℕ) (es : List Entry) (e : Entry) → among a (addresses es) ≡ false → e.address ≡ a → (q : List ℕ) → port_in (es ++ e ∷ []) q ≡ cond (bytes_eq q a) (Some e.port) (port_in es q)
 port_push a [] e h k q = rw k
 port_push a (x ∷ es) e h k q = rw (port_push a es e (or_parts (bytes_eq a x.address) _ h).1 k q) (go (cases_Bool (bytes_eq q a)))
   where
@@ -87,40 +83,13 @@ among_end b a (x ∷ es) e k h = rw (among_end b a es e k h)
 
 apart_push : (a : List ℕ) (es : List Entry) (e : Entry) → e.address ≡ a → apart (addresses es) ≡ true → among a (addresses es) ≡ false → apart (addresses (es ++ e ∷ [])) ≡ true
 apart_push a [] e k h m = refl
-apart_push a (x ∷ es) e k h m = rw (among_end x.address a es e k (same_flip a x.address (or_parts (bytes_eq a x.address) _ m).0), no-dup) (apart_push a es e k rest (or_parts (bytes_eq a x.address) _ m).1)
+apart_push a (x ∷ es) e k h m = rw (among_end x.address a es e k (either_way x.address a ∙ (or_parts (bytes_eq a x.address) _ m).0), no_dup) (apart_push a es e k rest (or_parts (bytes_eq a x.address) _ m).1)
   where
-    no-dup : among x.address (addresses es) ≡ false
-    no-dup = first_apart (among x.address (addresses es)) (apart (addresses es)) h
+    no_dup : among x.address (addresses es) ≡ false
+    no_dup = first_apart (among x.address (addresses es)) (apart (addresses es)) h
 
     rest : apart (addresses es) ≡ true
     rest = rest_apart (among x.address (addresses es)) (apart (addresses es)) h
-
--- the list of the known addresses
-length_addresses : (es : List Entry) → length (addresses es) ≡ length es
-length_addresses [] = refl
-length_addresses (x ∷ es) = ap suc (length_addresses es)
-
-known_among : (es : List Entry) (a : List ℕ) → is_some (port_in es a) ≡ among a (addresses es)
-known_among [] a = refl
-known_among (x ∷ es) a = go (known_among es a) (cases_Bool (bytes_eq a x.address))
-  where
-    go : is_some (port_in es a) ≡ among a (addresses es) → (bytes_eq a x.address ≡ true) ⊎ (bytes_eq a x.address ≡ false) → is_some (cond (bytes_eq a x.address) (Some x.port) (port_in es a)) ≡ bytes_eq a x.address || among a (addresses es)
-    go r (inl t) = rw t
-    go r (inr t) = rw t r
-
-pub table_counted : (m : Meaning) (es : List Entry) → apart (addresses es) ≡ true → m.count ≡ length es → ((a : List ℕ) → m.known a ≡ port_in es a) → Counted m (addresses es)
-table_counted m es h k f = record { once = h; many = length_addresses es ∙ sym k; all = λ a. ap is_some (f a) ∙ known_among es a }
-
--- only addresses are known
-real_by : (b : Bool) (a : List ℕ) (e : Entry) (o : Option Port) → bytes_eq a e.address ≡ b → is_address a ≡ false → is_address e.address ≡ true → o ≡ None → cond b (Some e.port) o ≡ None
-real_by true a e o same odd six rest = clash (sym six ∙ ap is_address (sym (same_is a e.address same)) ∙ odd)
-real_by false a e o same odd six rest = rest
-
-pub only_real : (es : List Entry) → are_addresses (addresses es) ≡ true → (a : List ℕ) → is_address a ≡ false → port_in es a ≡ None
-only_real [] r a h = refl
-only_real (e ∷ es) r a h =
-    real_by (bytes_eq a e.address) a e (port_in es a) refl h (and_parts (is_address e.address) _ r).0
-    (only_real es (and_parts (is_address e.address) _ r).1 a h)
 
 real_push : (es : List Entry) (e : Entry) → are_addresses (addresses es) ≡ true → is_address e.address ≡ true → are_addresses (addresses (es ++ e ∷ [])) ≡ true
 real_push [] e r six = rw six
@@ -162,24 +131,24 @@ pub real_added : (es : List Entry) (n : ℕ) (e : Entry) → n < length es → i
 real_added es n e l six r = ap (λ (xs : List Entry). are_addresses (addresses xs)) (take_more_set es n e l) ∙ real_push (take n es) e r six
 
 module _ (p q : PortState) (es : List Entry) (n : ℕ) (a : List ℕ) (single : is_group a ≡ false) where
-  pub changed-answer : (i : ℕ) (e : Entry) → Hit a (take n es) i → Ok tt ≡ learn_answer 64 a (table_meaning p q es n)
-  changed-answer i e h = rw (single, port_hit a (take n es) i e h)
+  pub changed_answer : (i : ℕ) (e : Entry) → Hit a (take n es) i → Ok tt ≡ learn_answer 64 a (table_meaning p q es n)
+  changed_answer i e h = rw (single, port_hit a (take n es) i e h)
 
-  pub changed-after : (i : ℕ) (r : Port) (e d : Entry) → Hit a (take n es) i → e ≡ heard_at r (slice_index_or es i d) → table_meaning p q (slice_set es i e) n ≡ learned 64 a r (table_meaning p q es n)
-  changed-after i r e d h k =
+  pub changed_after : (i : ℕ) (r : Port) (e d : Entry) → Hit a (take n es) i → e ≡ heard_at r (slice_index_or es i d) → table_meaning p q (slice_set es i e) n ≡ learned 64 a r (table_meaning p q es n)
+  changed_after i r e d h k =
       rw (single, port_hit a (take n es) i e h, k)
-      (ap (λ (f : List ℕ → Option Port). meaning_of p q f n) (fun_ext (λ b. ap (λ (xs : List Entry). port_in xs b) (take-set-lt n es i (heard_at r (slice_index_or es i d)) (hit_under a es n i h)) ∙ port_set a (take n es) i (heard_at r (slice_index_or es i d)) h (hit_address a es n i d h) b)))
+      (ap (λ (f : List ℕ → Option Port). meaning_of p q f n) (fun_ext (λ b. ap (λ (xs : List Entry). port_in xs b) (take-set-lt n es i (heard_at r (slice_index_or es i d)) (hit_under a es n i h)) ∙ port_set a (take n es) i (heard_at r (slice_index_or es i d)) h (hit_address a es n i d h) b ∙ as_update a b (port_in (take n es)) (Some r))))
 
-  pub full-answer : n ≡ 64 → among a (addresses (take n es)) ≡ false → Err TableFull ≡ learn_answer 64 a (table_meaning p q es n)
-  full-answer k h = rw (single, port_none a (take n es) h, eq-eqb n 64 k)
+  pub full_answer : n ≡ 64 → among a (addresses (take n es)) ≡ false → Err TableFull ≡ learn_answer 64 a (table_meaning p q es n)
+  full_answer k h = rw (single, port_none a (take n es) h, eq-eqb n 64 k)
 
-  pub full-after : (r : Port) → n ≡ 64 → among a (addresses (take n es)) ≡ false → table_meaning p q es n ≡ learned 64 a r (table_meaning p q es n)
-  full-after r k h = rw (single, port_none a (take n es) h, eq-eqb n 64 k)
+  pub full_after : (r : Port) → n ≡ 64 → among a (addresses (take n es)) ≡ false → table_meaning p q es n ≡ learned 64 a r (table_meaning p q es n)
+  full_after r k h = rw (single, port_none a (take n es) h, eq-eqb n 64 k)
 
-  pub added-answer : ((n == 64) ≡ false) → among a (addresses (take n es)) ≡ false → Ok tt ≡ learn_answer 64 a (table_meaning p q es n)
-  added-answer k h = rw (single, port_none a (take n es) h, k)
+  pub added_answer : ((n == 64) ≡ false) → among a (addresses (take n es)) ≡ false → Ok tt ≡ learn_answer 64 a (table_meaning p q es n)
+  added_answer k h = rw (single, port_none a (take n es) h, k)
 
-  pub added-after : (e : Entry) → n < length es → ((n == 64) ≡ false) → e.address ≡ a → among a (addresses (take n es)) ≡ false → table_meaning p q (slice_set es n e) (n + 1) ≡ learned 64 a e.port (table_meaning p q es n)
-  added-after e l k m h =
+  pub added_after : (e : Entry) → n < length es → ((n == 64) ≡ false) → e.address ≡ a → among a (addresses (take n es)) ≡ false → table_meaning p q (slice_set es n e) (n + 1) ≡ learned 64 a e.port (table_meaning p q es n)
+  added_after e l k m h =
       rw (single, port_none a (take n es) h, k)
-      (ap (λ (f : List ℕ → Option Port). meaning_of p q f (n + 1)) (fun_ext (λ b. ap (λ (xs : List Entry). port_in xs b) (take_more_set es n e l) ∙ port_push a (take n es) e h m b)))
+      (ap (λ (f : List ℕ → Option Port). meaning_of p q f (n + 1)) (fun_ext (λ b. ap (λ (xs : List Entry). port_in xs b) (take_more_set es n e l) ∙ port_push a (take n es) e h m b ∙ as_update a b (port_in (take n es)) (Some e.port))))
