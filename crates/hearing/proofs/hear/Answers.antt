@@ -5,7 +5,7 @@ use Rattle.hearing.proofs.hear.Goals as goal
 
 pub returns-in-Ok : goal.returns-in-Ok
 unfolding heard
-returns-in-Ok c = c.said-in.ensures ∙ ap (understood (setup c.args.settings.now)) c.in-Ok.ensures.value
+returns-in-Ok c = c.said_in.ensures ∙ ap (understood (setup c.args.settings.now)) c.in-Ok.ensures.value
 
 pub returns-in-Err : goal.returns-in-Err
 unfolding heard
