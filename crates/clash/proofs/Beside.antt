@@ -1,5 +1,5 @@
 -- What stands beside a frame of a history.
-use Rattle.std.proofs.Common.{◌≡◌, ℕ, suc, ◌+◌, ◌<◌, ◌≤◌, Bool, true, false, eqb, List, [], map, length, get_or, vec_items, sym, refl, ap, ◌∙◌, arith}
+use Rattle.std.proofs.Common.{◌≡◌, ℕ, suc, ◌+◌, ◌<◌, ◌≤◌, true, false, eqb, List, length, get_or, vec_items, sym, refl, ap, ◌∙◌, arith}
 use lib.ListN.{length-map}
 use Rattle.clash.specs.Clashes.{frame_at, nobody, count, same_sender, same_number, other_kind}
 use Rattle.clash.specs.Places.{last_below, spot}
@@ -11,8 +11,6 @@ use Rattle.clash.proofs.Counts.{count_same, count_le, count_last}
 use Rattle.clash.proofs.Lasts.{last_same, last_found, last_skip}
 use Rattle.clash.proofs.Mapped.{read_map}
 use Rattle.clash.proofs.Tests.{sender_same, other_same}
-use Rattle.std.proofs.lemmas.List.{get_or-map}
-use Rattle.std.specs.Str.{bytes_eq}
 
 pub record Beside (es : List Seen) (i : ℕ) (r : Noted) : Type 0 where
   pub below : i < length es
@@ -33,12 +31,6 @@ beside h i r l e =
       other = read_map (λ (n : Noted). spot n.other) ns i r 0 b e ∙ h.differed i l;
     }
 
--- a look-up by a key is a look-up by a test
-pub looked_up : (f : Seen → List ℕ) (R : Seen → Seen → Bool) (ks : List (List ℕ)) (es : List Seen) (k : List ℕ) (s : Seen) → ((e : Seen) → bytes_eq (f s) (f e) ≡ R s e) → ks ≡ map f es → k ≡ f s → last_below (λ i. bytes_eq k (get_or ks i [])) (length ks) ≡ last_below (λ i. R s (frame_at es i)) (length es)
-looked_up f R ks es k s same e g =
-    rw (e, g, length-map es f) (last_same (λ i. bytes_eq (f s) (get_or (map f es) i [])) (λ i. R s (frame_at es i)) (length es)
-    (λ i l. ap (bytes_eq (f s)) (get_or-map f es i nobody [] l) ∙ same (frame_at es i)))
-
 pub latest_below : (es : List Seen) (s : Seen) (i : ℕ) → suc i ≡ last_below (λ k. same_sender s (frame_at es k)) (length es) → i < length es
 latest_below es s i e = (last_found (λ k. same_sender s (frame_at es k)) (length es) i (sym e)).0
 
@@ -53,9 +45,6 @@ rank_next {es} {i} {r} s b e =
     let here : count (λ k. same_sender s (frame_at es k)) (suc i) ≡ 1 + count (λ k. same_sender s (frame_at es k)) i = rw t refl in
     let same : count (λ k. same_sender s (frame_at es k)) i ≡ count (λ k. same_sender (frame_at es i) (frame_at es k)) i = count_same _ _ i (λ k l. sender_same s (frame_at es i) (frame_at es k) t) in
     omega (arith, b.rank, last, here, same)
-
-pub other_here : (es : List Seen) (s : Seen) (i : ℕ) → same_number s (frame_at es i) ≡ true → eqb s.kind (frame_at es i).kind ≡ false → last_below (λ k. other_kind s (frame_at es k)) (suc i) ≡ suc i
-other_here es s i n k = rw (n, k) refl
 
 pub other_before : (es : List Seen) (s : Seen) (i : ℕ) (r : Noted) → Beside es i r → same_number s (frame_at es i) ≡ true → eqb s.kind (frame_at es i).kind ≡ true → last_below (λ k. other_kind s (frame_at es k)) (suc i) ≡ spot r.other
 other_before es s i r b n k =

@@ -47,9 +47,6 @@ walk_falls ks bs k i o h w g =
     let e : spot o ≡ last_below (λ j. eqb (bucket_at ks j) (bucket_at ks i)) i = ap spot g ∙ h i r.0 in
     omega (arith, e, last_le (λ j. eqb (bucket_at ks j) (bucket_at ks i)) i)
 
-pub walk_found : (ks : List (List ℕ)) (k : List ℕ) (i : ℕ) → Walk ks k (suc i) → bytes_eq k (get_or ks i []) ≡ true → suc i ≡ last_below (λ j. bytes_eq k (get_or ks j [])) (length ks)
-walk_found ks k i w t = sym (w.same ∙ rw t refl)
-
 -- one more key leaves the buckets of the others
 bucket_kept : (ks : List (List ℕ)) (k : List ℕ) (i : ℕ) → i < length ks → bucket_at (ks ++ k ∷ []) i ≡ bucket_at ks i
 bucket_kept ks k i l = ap bucket_of (get_or_append_left ks (k ∷ []) [] i l)

@@ -27,10 +27,6 @@ entry_at es k o i r e w g =
       below = read_map (λ (x : Entry). x.below) es i r None l g;
     }
 
--- an index with no entries
-pub linked_none : (es : List Entry) → es ≡ [] → Linked (keys_in es) (below_in es)
-linked_none es e = subst (λ (xs : List Entry). Linked (keys_in xs) (below_in xs)) (sym e) (λ j l. absurd (omega arith))
-
 none_at : (n b : ℕ) → get_or {A = Option ℕ} (replicate n None) b None ≡ None
 none_at n b =
     let none : Option ℕ = None in

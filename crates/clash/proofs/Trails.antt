@@ -1,5 +1,5 @@
 -- The way back over the frames that a frame clashes with.
-use Rattle.std.proofs.Common.{◌≡◌, ℕ, zero, suc, ◌+◌, ◌-◌, ◌<◌, ◌≤◌, true, false, not, eqb, ltb, List, [], ◌∷◌, ◌++◌, length, get_or, Some, None, vec_items, Option, sym, refl, ap, ◌∙◌, subst, ap₂, inl, inr, append_assoc, arith}
+use Rattle.std.proofs.Common.{◌≡◌, ℕ, zero, suc, ◌+◌, ◌-◌, ◌<◌, ◌≤◌, true, false, not, eqb, ltb, List, [], ◌∷◌, ◌++◌, length, get_or, Some, vec_items, Option, sym, refl, ap, ◌∙◌, subst, ap₂, inl, inr, append_assoc, arith}
 use Rattle.clash.specs.Clashes.{frame_at, count, same_sender, same_number, other_kind, between, clash, partners, clash_lines}
 use Rattle.clash.specs.Places.{last_below, spot}
 use Rattle.clash.specs.Sightings.{Seen, shown}
@@ -91,9 +91,6 @@ trail_past {es} {i} {j} {r} {q} {out} t p =
     (le-ltb (between es k j) 32768 (omega (arith, far, after_more (λ x. same_sender (frame_at es j) (frame_at es x)) i k j (omega arith))))) in
     sym (append-nil out) ∙ ap (λ (xs : List ℕ). out ++ xs) (sym none) ∙ t.trail.rest
 
-pub trail_end : (es : List Seen) (j : ℕ) (o : Option ℕ) (out : List ℕ) → o ≡ None → Trail es j (spot o) out → out ≡ partners es j j
-trail_end es j o out e t = sym (append-nil out) ∙ ap (λ (x : Option ℕ). out ++ partners es j (spot x)) (sym e) ∙ t.rest
-
 previous_for : {es : List Seen} {i j : ℕ} {r q : Noted} {out : List ℕ} → Turn es i j r q out → spot r.previous ≡ last_below (λ k. same_number (frame_at es j) (frame_at es k)) i
 previous_for {es} {i} {j} t =
     let same = number_part (frame_at es j) (frame_at es i) (t.trail.within i refl).1 in
@@ -132,6 +129,3 @@ trail_step {es} {i} {j} {r} {q} {out} t o h p out' e =
 -- what the search puts together is the list of all clashes of frame j
 pub lines_all : (h : History) (j : ℕ) {out : List ℕ} → true ≡ ltb j (length (frames_of h)) → out ≡ partners (frames_of h) j j → out ≡ clash_lines (frames_of h) j
 lines_all h j l e = e ∙ sym (cond-true (ltb j (length (frames_of h))) (partners (frames_of h) j j) [] (sym l))
-
-pub lines_none : (h : History) (j : ℕ) {out : List ℕ} → false ≡ ltb j (length (frames_of h)) → out ≡ [] → out ≡ clash_lines (frames_of h) j
-lines_none h j l e = e ∙ sym (cond-false (ltb j (length (frames_of h))) (partners (frames_of h) j j) [] (sym l))

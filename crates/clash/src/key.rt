@@ -21,6 +21,7 @@ impl Key {
     }
 
     // The high bits of the spread-out key.
+    #[tactic(auto, unfolding(crate::specs::Keys::bucket_of))]
     pub(crate) fn bucket(self) -> usize
         ensures value { result ≡ bucket_of (key_octets self) }
         ensures bound { result < 262144 }

@@ -1,15 +1,7 @@
-use Rattle.std.proofs.Common.{length, vec_items, sym, ap, arith}
+use Rattle.std.proofs.Common.{vec_items, ap, arith}
 use Rattle.clash.specs.Places.{spot}
-use Rattle.clash.specs.Views.{frames_of}
-use Rattle.clash.proofs.Trails.{turn, trail_start, trail_past, trail_end, trail_falls, trail_step, ranks_ordered, previous_found, lines_all, lines_none}
+use Rattle.clash.proofs.Trails.{turn, trail_start, trail_past, trail_falls, trail_step, ranks_ordered, previous_found, lines_all}
 use Rattle.clash.proofs.history.History.clashes.Goals as goal
-use Rattle.std.proofs.lemmas.Bool.{ltb-true}
-
-pub returns-then-not-holds : goal.returns-then-not-holds
-returns-then-not-holds c = lines_none c.args.self.now c.args.j c.if-not-holds.ensures c.clear.ensures.items
-
-pub index-requires : goal.index-requires
-index-requires c = omega (arith, ltb-true c.args.j (length (frames_of c.args.self.now)) (sym c.if-not-holds.ensures))
 
 pub loop-at-init : goal.loop-at-init
 loop-at-init c = trail_start c.args.self.now c.if-not-holds.ensures c.index.ensures c.clear.ensures.items
@@ -34,6 +26,3 @@ pub loop-at-preserved : goal.loop-at-preserved
 loop-at-preserved c =
     let t = turn c.args.self.now c.if-not-holds.ensures c.index.ensures c.in-Some.is c.loop-at.invariant c.index-in-Some.ensures in
     trail_step t (spot c.other_than-at.result) c.other_than-at.ensures c.if-is_past.ensures (vec_items c.push.new.self) c.in_ok-push.ensures.items
-
-pub returns : goal.returns
-returns c = lines_all c.args.self.now c.args.j c.if-not-holds.ensures (trail_end (frames_of c.args.self.now) c.args.j c.loop-at.at (vec_items c.loop-at.lines) c.in_default.is c.loop-at.invariant)

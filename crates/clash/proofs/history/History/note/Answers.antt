@@ -1,10 +1,10 @@
-use Rattle.std.proofs.Common.{List, [], ◌∷◌, ◌++◌, vec_items, ap, ◌∙◌}
+use Rattle.std.proofs.Common.{vec_items}
 use Rattle.clash.specs.Clashes.{count, same_sender, same_number, other_kind}
 use Rattle.clash.specs.Indexes.{keys}
 use Rattle.clash.specs.Keys.{key_octets}
 use Rattle.clash.specs.Notes.{sender_key, number_key, seen_in}
 use Rattle.clash.specs.Places.{last_below, spot}
-use Rattle.clash.specs.Sightings.{Seen, shown}
+use Rattle.clash.specs.Sightings.{shown}
 use Rattle.clash.specs.declared.noted.Noted.{Noted}
 use Rattle.clash.proofs.Counts.{count_same}
 use Rattle.clash.proofs.Lasts.{last_same}
@@ -27,9 +27,3 @@ invariant_of-self c =
     let sent = keys_follow sender_key (keys h.senders) (keys c.add.new.self) (seen_in ns) (seen_in ns') (key_octets c.sender_key.result) s h.sent c.add.ensures c.sender_key.ensures es in
     let numbered = keys_follow number_key (keys h.numbers) (keys c.add-2.new.self) (seen_in ns) (seen_in ns') (key_octets c.number_key.result) s h.numbered c.add-2.ensures c.number_key.ensures es in
     record { long = noted_len c.push_reserved.new.self; ranked = ranked; preceded = preceded; differed = differed; sent = sent; numbered = numbered }
-
-pub returns : goal.returns
-returns c =
-    let s = shown c.args.s in
-    seen_push (vec_items c.reserve.new.self.noted) (vec_items c.push_reserved.new.self) c.described-noted.result s c.push_reserved.ensures.items c.described-noted.ensures.frame
-    ∙ ap (λ (es : List Seen). es ++ s ∷ []) c.reserve.ensures.same

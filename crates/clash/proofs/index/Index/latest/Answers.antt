@@ -1,8 +1,8 @@
 use Rattle.std.proofs.Common.{◌<◌, length, None, vec_items, sym, ap, ◌∙◌, arith}
 use Rattle.clash.specs.Chains.{keys_in, below_in}
 use Rattle.clash.specs.Keys.{key_octets}
-use Rattle.clash.proofs.Buckets.{walk_start, walk_step, walk_falls, walk_found}
-use Rattle.clash.proofs.Entries.{entry_at, walk_below}
+use Rattle.clash.proofs.Buckets.{walk_start, walk_step, walk_falls}
+use Rattle.clash.proofs.Entries.{entry_at}
 use Rattle.clash.proofs.index.Index.latest.Goals as goal
 use Rattle.std.proofs.lemmas.List.{get_or_read}
 use Rattle.std.specs.Str.{bytes_eq}
@@ -13,18 +13,6 @@ loop-at-init c =
     let hs = vec_items s.heads in
     let l : c.bucket.result < length hs = omega (arith, s.heads.ok.0, s.whole, c.bucket.ensures.bound) in
     walk_start (keys_in (vec_items s.entries)) hs (key_octets c.args.key) c.bucket.result c.index-at.result.now s.headed c.bucket.ensures.value c.bucket.ensures.bound (get_or_read hs c.bucket.result c.index-at.result.now l c.index-at.ensures None)
-
-pub index-requires : goal.index-requires
-index-requires c =
-    let v = c.args.self.now.entries in
-    omega (arith, walk_below (vec_items v) (key_octets c.args.key) c.loop-at.at c.in-Some.i c.in-Some.is c.loop-at.invariant, v.ok.0)
-
-pub returns-then-is : goal.returns-then-is
-returns-then-is c =
-    let es = vec_items c.args.self.now.entries in
-    let k = key_octets c.args.key in
-    let e = entry_at es k c.loop-at.at c.in-Some.i c.index.result.now c.in-Some.is c.loop-at.invariant c.index.ensures in
-    walk_found (keys_in es) k c.in-Some.i e.walk (ap (bytes_eq k) (sym e.key) ∙ sym c.is.ensures ∙ c.if-is.true)
 
 pub loop-at-smaller : goal.loop-at-smaller
 loop-at-smaller c =

@@ -1,5 +1,5 @@
 use Rattle.std.proofs.Common.{◌≡◌, ℕ, Some, None, vec_items, Option, refl}
-use Rattle.clash.proofs.Entries.{linked_none, headed_none}
+use Rattle.clash.proofs.Entries.{headed_none}
 use Rattle.clash.proofs.index.Index.new.Goals as goal
 
 -- a copy of None is None
@@ -7,8 +7,5 @@ only_none : (P : Option ℕ → Type 0) → ((x : ℕ) → P (Some x) → ⊥) �
 only_none P h None p = refl
 only_none P h (Some x) p = absurd (h x p)
 
-pub invariant_of-result : goal.invariant_of-result
-invariant_of-result c =
-    let v = c.in_ok-heads.ensures in
-    let e = c.new.ensures.items in
-    record { whole = v.len; linked = linked_none (vec_items c.new.result) e; headed = headed_none (vec_items c.new.result) (vec_items c.in_ok-heads.heads) 262144 e (v.items_if_clones_equal (only_none _ (λ x p. p))) }
+pub invariant_of-result-clause-headed : goal.invariant_of-result-clause-headed
+invariant_of-result-clause-headed c = headed_none (vec_items c.new.result) (vec_items c.in_ok-heads.heads) 262144 c.new.ensures.items (c.in_ok-heads.ensures.items_if_clones_equal (only_none _ (λ x p. p)))
