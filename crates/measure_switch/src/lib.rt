@@ -46,7 +46,7 @@ fn look_up_all<S: Switch>(switch: &S, asked: &[[u8; 6]], start: u32) -> u32
 }
 
 fn learn_all<S: Switch>(switch: &mut S, heard: &[[u8; 6]], port: Port, start: u32) -> u32
-    ensures { record { switch = S.Switch.meaning switch.exit.now; sum = result } ≡ learned_all S.Switch.limit port heard.now (record { switch = S.Switch.meaning switch.entry.now; sum = start }) }
+    ensures { record { switch = S.Switch.meaning switch.new; sum = result } ≡ learned_all S.Switch.limit port heard.now (record { switch = S.Switch.meaning switch.old; sum = start }) }
 {
     let mut sum = start;
     for octets in heard {
@@ -75,7 +75,7 @@ fn look_up_rounds<S: Switch>(switch: &S, asked: &[[u8; 6]], rounds: u32) -> u32
 }
 
 fn learn_rounds<S: Switch>(switch: &mut S, heard: &[[u8; 6]], rounds: u32) -> u32
-    ensures { record { switch = S.Switch.meaning switch.exit.now; sum = result } ≡ again rounds (both_ways S.Switch.limit heard.now) (record { switch = S.Switch.meaning switch.entry.now; sum = 0 }) }
+    ensures { record { switch = S.Switch.meaning switch.new; sum = result } ≡ again rounds (both_ways S.Switch.limit heard.now) (record { switch = S.Switch.meaning switch.old; sum = 0 }) }
 {
     let mut sum = 0;
     for round in 0..rounds {

@@ -12,8 +12,8 @@ loop-octets-preserved g c =
     let m = g.S.Switch.meaning c.loop-octets.switch in
     let before : Run = record { switch = m; sum = c.loop-octets.sum } in
     let after = c.learn.ensures.after ∙ ap (λ a. learned k a p m) c.of.ensures in
-    let answer = c.learn-answer.ensures ∙ ap learn_number (c.learn.ensures.answer ∙ ap (λ a. learn_answer k a m) c.of.ensures) in
-    ap (learned_all k p (drop (c.loop-octets.octets-index + 1) c.args.heard.now)) (same_run after (c.sum-with-sum.ensures ∙ ap (summed c.loop-octets.sum) answer))
+    let answer = c.learn_answer.ensures ∙ ap learn_number (c.learn.ensures.answer ∙ ap (λ a. learn_answer k a m) c.of.ensures) in
+    ap (learned_all k p (drop (c.loop-octets.octets-index + 1) c.args.heard.now)) (same_run after (c.sum_with-sum.ensures ∙ ap (summed c.loop-octets.sum) answer))
     ∙ sym (at_drop_more (λ xs. learned_all k p xs before) _ _ _ c.loop-octets-test.true)
     ∙ c.loop-octets.invariant
 

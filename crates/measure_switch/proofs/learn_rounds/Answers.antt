@@ -8,7 +8,7 @@ pub loop-round-preserved : goal.loop-round-preserved
 loop-round-preserved g c =
     let k = g.S.Switch.limit in
     let round = both_ways k c.args.heard.now in
-    c.learn-all-sum-in-loop-round.ensures
-    ∙ ap (learned_all k One c.args.heard.now) c.learn-all-sum.ensures
+    c.learn_all-sum-in-loop-round.ensures
+    ∙ ap (learned_all k One c.args.heard.now) c.learn_all-sum.ensures
     ∙ ap round c.loop-round.invariant
     ∙ sym (again_more c.loop-round.round round _)

@@ -7,8 +7,8 @@ pub loop-octets-preserved : goal.loop-octets-preserved
 loop-octets-preserved g c =
     let m = g.S.Switch.meaning c.args.switch.now in
     let sum = c.loop-octets.sum in
-    let answer = c.port-answer.ensures ∙ ap port_answer (c.port-of.ensures ∙ ap m.known c.of.ensures) in
-    ap (looked_up m (drop (c.loop-octets.octets-index + 1) c.args.asked.now)) (c.sum-with-sum.ensures ∙ ap (summed sum) answer)
+    let answer = c.port_answer.ensures ∙ ap port_answer (c.port_of.ensures ∙ ap m.known c.of.ensures) in
+    ap (looked_up m (drop (c.loop-octets.octets-index + 1) c.args.asked.now)) (c.sum_with-sum.ensures ∙ ap (summed sum) answer)
     ∙ sym (at_drop_more (λ xs. looked_up m xs sum) _ _ _ c.loop-octets-test.true)
     ∙ c.loop-octets.invariant
 
