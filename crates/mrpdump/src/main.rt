@@ -1,9 +1,9 @@
 // Reads frames from standard input, one a line as hexadecimal octets, and prints the fields or the refusal of each.
 #![tactic(auto)]
 
-mod dump;
+mod progress;
 
-use dump::Dump;
+use progress::Dump;
 use std::io::{BufWriter, Read, Write};
 
 fn main(rt: HostRuntime) -> anyhow::Result<()> {
