@@ -1,7 +1,7 @@
 // The kind of a frame, or its refusal, without the fields: what the reader finds, for callers that only sort frames.
-ghost use Rattle.std.specs.Prelude.{◌≡◌, ◌+◌, ◌≤◌, length, take, drop, is_some, Some, nat_le};
+ghost use Rattle.std.specs.Prelude.{◌≡◌, ◌+◌, ◌≤◌, ◌&&◌, length, take, drop, is_some, Some, nat_le};
 ghost use Rattle.std.specs.Str.{bytes_eq};
-ghost use Rattle.kind.specs.Kinds.{destination_of, address_of, goes_to};
+ghost use Rattle.kind.specs.Kinds.{type_of, destination_of, address_of, goes_to};
 ghost use Rattle.layout.specs.Fields.{word16 as word};
 ghost use Rattle.layout.specs.Elements.{element_at, kind_of, in_values, is_priority, stands};
 ghost use Rattle.layout.specs.Reading.{reading, read_first, head_of};
@@ -12,13 +12,21 @@ use crate::zero_from;
 use kind::{Destination, Kind};
 use refusal::Refusal;
 
+// The kinds by the type of their first element, from 2 on: looked up, since no branch on the kind can be foretold.
+static KINDS: [Kind; 4] = [
+    Kind::Test,
+    Kind::TopologyChange,
+    Kind::LinkDown,
+    Kind::LinkUp,
+];
+
 pub fn frame_kind(octets: &[u8]) -> Result<Kind, Refusal>
     ensures { checked result ≡ kind_reading (reading octets.now) }
 {
     let 50..=60 = octets.len() else {
         return Err(Refusal::FrameSize);
     };
-    let Some(destination) = Destination::of(&octets[0..6]) else {
+    let Some(destination) = destination_of(octets) else {
         return Err(Refusal::UnknownDestination);
     };
     let 0x88E3 = word_at(octets, 12) else {
@@ -28,6 +36,21 @@ pub fn frame_kind(octets: &[u8]) -> Result<Kind, Refusal>
         return Err(Refusal::Version);
     };
     check_elements(octets, destination)
+}
+
+// The destination, all of its octets compared as one number.
+fn destination_of(octets: &[u8]) -> Option<Destination>
+    requires { 6 ≤ length octets.now }
+    ensures { result ≡ destination_of (take 6 (drop 0 octets.now)) }
+{
+    let address = [
+        0, 0, octets[0], octets[1], octets[2], octets[3], octets[4], octets[5],
+    ];
+    match u64::from_be_bytes(address) {
+        0x0115_4E00_0001 => Some(Destination::McTest),
+        0x0115_4E00_0002 => Some(Destination::McControl),
+        _ => None,
+    }
 }
 
 // Goes on from the version, which is known to be 1.
@@ -70,19 +93,27 @@ fn goes_to(octets: &[u8], destination: Destination, kind: Kind) -> bool
     kind.destination() == destination
 }
 
-// The kind of frame that begins with the element after the version.
-#[tactic(auto, using(crate::proofs::First::known), unfolding(layout::specs::Elements::element_at, layout::specs::Elements::stands))]
+// The kind of frame that begins with the element after the version: its type tells the kind, which tells its length.
 fn first_kind(octets: &[u8]) -> Option<Kind>
     requires { 50 ≤ length octets.now }
     ensures { Passes result (is_some (kind_of (element_at octets.now 16))) (λ k. KindAt k octets.now) }
 {
-    match (octets[16], octets[17]) {
-        (2, 18) => Some(Kind::Test),
-        (3, 10) => Some(Kind::TopologyChange),
-        (4, 12) => Some(Kind::LinkDown),
-        (5, 12) => Some(Kind::LinkUp),
-        _ => None,
+    let kind = typed(octets[16])?;
+    if octets[17] as usize + 26 == kind.span() {
+        Some(kind)
+    } else {
+        None
     }
+}
+
+// The kind whose first element has this type.
+fn typed(element: u8) -> Option<Kind>
+    ensures { Passes result (nat_le 2 element && nat_le element 5) (λ k. type_of k ≡ element) }
+{
+    let 2..=5 = element else {
+        return None;
+    };
+    Some(KINDS[element as usize - 2])
 }
 
 // Whether the fields of a first element of this kind have their values.
