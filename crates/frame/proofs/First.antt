@@ -3,7 +3,7 @@ use Rattle.std.proofs.Common.{◌≡◌, ℕ, ◌+◌, ◌≤◌, ◌&&◌, true
 use Rattle.kind.specs.declared.Kind.{Kind}
 use Rattle.kind.specs.declared.Kind.TheVariants.{Test, TopologyChange, LinkDown, LinkUp}
 use Rattle.std.proofs.lemmas.Bool.Decides.{nat_tests}
-use Rattle.kind.specs.Kinds.{type_of, span_of, goes_to, address_of}
+use Rattle.kind.specs.Kinds.{type_of, span_of}
 use Rattle.layout.specs.Fields.{octet}
 use Rattle.layout.specs.Elements.{element_at, stands, kind_of, span_at, address_at, size_of}
 use Rattle.frame.specs.Checked.{first_at, KindAt}

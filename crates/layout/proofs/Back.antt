@@ -1,12 +1,12 @@
 -- What is laid out from fields that have their values is read back as those fields.
-use Rattle.std.proofs.Common.{◌≡◌, ℕ, zero, suc, ◌+◌, ◌*◌, ◌/◌, ◌%◌, ◌<◌, ◌≤◌, Bool, true, false, cond, ◌&&◌, eqb, leb, List, [], ◌∷◌, ◌++◌, length, get_or, drop, replicate, sym, refl, ap, ◌∙◌, arith}
+use Rattle.std.proofs.Common.{◌≡◌, ℕ, zero, suc, ◌+◌, ◌*◌, ◌/◌, ◌%◌, ◌<◌, ◌≤◌, true, leb, List, [], ◌∷◌, ◌++◌, length, get_or, drop, replicate, sym, refl, ap, ◌∙◌, arith}
 use Rattle.std.proofs.lemmas.Nat.{shr-shr, div-add-mod'}
 use Rattle.std.proofs.lemmas.List.{length-replicate, drop_more, drop_all}
-use Rattle.std.proofs.lemmas.Bool.{le-leb, and_parts}
+use Rattle.std.proofs.lemmas.Bool.{le-leb}
 use Rattle.layout.specs.Fields.{Part}
-use Rattle.layout.specs.Elements.{Element, test, topology_change, link_down, link_up, element_at, stands, is_priority, in_values}
+use Rattle.layout.specs.Elements.{test, topology_change, link_down, link_up, element_at, stands, is_priority}
 use Rattle.layout.specs.Reading.{reading, accepted, all_zero}
-use Rattle.layout.specs.Layout.{encode, two, four}
+use Rattle.layout.specs.Layout.{encode}
 
 abbrev placed : ℕ → List ℕ → Part
 placed i xs = record { at = i; octets = xs }

@@ -1,5 +1,5 @@
 -- Every accepted list of octets is the frame of its fields, and then zero octets.
-use Rattle.std.proofs.Common.{◌≡◌, ℕ, ◌+◌, ◌-◌, ◌<◌, ◌≤◌, Bool, true, false, cond, eqb, leb, List, [], ◌∷◌, ◌++◌, length, take, drop, replicate, is_some, sym, refl, ap, ◌∙◌, arith}
+use Rattle.std.proofs.Common.{◌≡◌, ℕ, ◌+◌, ◌≤◌, Bool, true, false, cond, eqb, leb, List, ◌++◌, length, take, drop, is_some, sym, refl, ap, ◌∙◌, arith}
 use Rattle.std.specs.Str.{bytes_eq}
 use Rattle.std.proofs.lemmas.List.{take-append-drop}
 use Rattle.std.proofs.lemmas.Slice.Eq.{bytes_eq-Decides}
@@ -7,7 +7,7 @@ use Rattle.std.proofs.lemmas.Bool.{eqb-true, leb-true, and_parts, false≢true}
 use Rattle.kind.specs.Kinds.{destination_of}
 use Rattle.layout.specs.Fields.{word16, part}
 use Rattle.layout.specs.Elements.{Element, test, topology_change, link_down, link_up, common, end, none, stands, test_at, topology_change_at, link_down_at, link_up_at, common_at, element_at, size_of, kind_of, span_at, address_at, in_values}
-use Rattle.layout.specs.Reading.{Reading, refused, accepted, check, is_sized, Head, head_of, all_zero, read_end, read_first, read_head, reading}
+use Rattle.layout.specs.Reading.{Reading, accepted, check, is_sized, head_of, all_zero, read_end, read_first, read_head}
 use Rattle.layout.specs.Layout.{two, link_octets, octets_of, encode, LaidOut, AcceptedLaidOut}
 use Rattle.layout.proofs.Spelled.{Spells, join, Octets, part_of, two_of, four_of, Stood, stood, zeros_are}
 

@@ -1,5 +1,5 @@
 -- The elements of a frame: a type octet, a length octet, and that many octets of content.
-use Rattle.std.specs.Prelude.{ℕ, ◌+◌, ◌%◌, Bool, true, false, cond, ◌&&◌, List, [], length, Some, None, Option, ◌==◌, nat_le}
+use Rattle.std.specs.Prelude.{ℕ, ◌+◌, ◌%◌, Bool, false, cond, ◌&&◌, List, [], length, Some, None, Option, ◌==◌, nat_le}
 use Rattle.kind.specs.declared.Kind.{Kind}
 use Rattle.kind.specs.declared.Kind.TheVariants.{Test, TopologyChange, LinkDown, LinkUp}
 use Rattle.kind.specs.Kinds.{span_of, goes_to, address_of}

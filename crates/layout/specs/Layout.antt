@@ -1,5 +1,5 @@
 -- The octets of a frame written out from its fields, and the law that holds every accepted frame to them.
-use Rattle.std.specs.Prelude.{◌≡◌, ℕ, ◌+◌, ◌-◌, ◌/◌, ◌%◌, ◌<◌, List, [], ◌∷◌, ◌++◌, length, replicate}
+use Rattle.std.specs.Prelude.{◌≡◌, ℕ, ◌/◌, ◌%◌, ◌<◌, List, [], ◌∷◌, ◌++◌, replicate}
 use Rattle.std.specs.List.{AllByRecursion}
 use Rattle.layout.specs.Fields.{Part}
 use Rattle.layout.specs.Elements.{Element, test, topology_change, link_down, link_up, common, end, none, kind_of, address_at}

@@ -1,5 +1,5 @@
 -- What a manager keeps, and how each part of it changes.
-use Rattle.std.specs.Prelude.{ℕ, ◌+◌, ◌-◌, ◌%◌, Bool, false, Some, None, Option}
+use Rattle.std.specs.Prelude.{ℕ, ◌+◌, ◌-◌, ◌%◌, Bool, false, None, Option}
 use Rattle.switch.specs.declared.port.Port.{Port}
 use Rattle.switch.specs.declared.port.Port.TheVariants.{One}
 use Rattle.settings.specs.Setups.{Setup}

@@ -10,7 +10,7 @@ use Rattle.hearing.specs.Heards.{heard}
 use Rattle.hearing.specs.declared.Heard.{Heard}
 use Rattle.outbox.specs.Rows.{opened}
 use Rattle.client.specs.Machines.{Machine}
-use Rattle.client.specs.Rows.{acts, turns, hears, fires, expires}
+use Rattle.client.specs.Rows.{acts, turns, hears, expires}
 use Rattle.node_laws.specs.Links.{Both, put, told}
 use Rattle.node_laws.specs.Clients.{ClientFit}
 

@@ -1,19 +1,19 @@
 -- What holds of a node at every point of every history, from one event to the next.
-use Rattle.std.proofs.Common.{◌≡◌, ℕ, ◌≤◌, Bool, true, List, [], ◌∷◌, length, sym, refl, ap, ◌∙◌, subst, arith}
+use Rattle.std.proofs.Common.{◌≡◌, ℕ, ◌≤◌, Bool, List, [], ◌∷◌, length, sym, refl, ◌∙◌, subst, arith}
 use Rattle.std.proofs.lemmas.Bool.{and_parts}
 use Rattle.switch.specs.Meanings.{Meaning}
-use Rattle.settings.specs.Setups.{Setup, within, in_time, in_count}
+use Rattle.settings.specs.Setups.{Setup, in_time, in_count}
 use Rattle.settings.proofs.Limits.{in_count_lem}
 use Rattle.event.specs.Events.{Event}
-use Rattle.outbox.specs.Rows.{opened, quiet}
+use Rattle.outbox.specs.Rows.{opened}
 use Rattle.client.specs.Machines as client-machine
 use Rattle.client.specs.Rows as client-rows
 use Rattle.manager.specs.Machines as manager-machine
 use Rattle.manager.specs.Rows as manager-rows
 use Rattle.node.specs.declared.Role.{Role}
 use Rattle.node.specs.declared.Role.TheVariants as role
-use Rattle.node.specs.Nodes.{Node, client, manager, acts, started}
-use Rattle.node_laws.specs.Links.{Both, both, told}
+use Rattle.node.specs.Nodes.{Node, client, manager, acts}
+use Rattle.node_laws.specs.Links.{Both, told}
 use Rattle.node_laws.specs.Histories.{Happened, after, links_after}
 use Rattle.node_laws.specs.Managers.{Counted}
 use Rattle.node_laws.specs.Tables.{Fit, AlwaysFit, Opens, AlwaysOpens, InCount, AlwaysInCount, FourFrames}

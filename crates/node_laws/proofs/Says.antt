@@ -1,9 +1,8 @@
 -- All that a node sends fits its fields, and so reads back.
-use Rattle.std.proofs.Common.{◌≡◌, ℕ, ◌+◌, ◌-◌, ◌*◌, ◌%◌, ◌<◌, ◌≤◌, true, List, [], ◌∷◌, ◌++◌, replicate, sym, refl, ap, ◌∙◌, subst, append-nil, arith}
+use Rattle.std.proofs.Common.{◌≡◌, ℕ, ◌+◌, ◌-◌, ◌*◌, ◌%◌, ◌<◌, ◌≤◌, true, List, [], ◌∷◌, sym, refl, ap, ◌∙◌, append-nil, arith}
 use Rattle.std.proofs.lemmas.Nat.{mul-le}
 use Rattle.std.proofs.lemmas.Bool.{and_parts}
-use Rattle.std.proofs.lemmas.Bool.Decides.{nat_tests}
-use Rattle.layout.specs.Elements.{in_values, size_of}
+use Rattle.layout.specs.Elements.{in_values}
 use Rattle.layout.specs.Reading.{reading}
 use Rattle.frame.specs.declared.content.PortRole.TheVariants.{Primary, Secondary}
 use Rattle.frame.specs.declared.content.RingState.TheVariants.{Open, Closed}
@@ -26,7 +25,7 @@ use Rattle.manager.specs.Rows as manager-rows
 use Rattle.node.specs.declared.Role.{Role}
 use Rattle.node.specs.declared.Role.TheVariants as role
 use Rattle.node.specs.Nodes.{Node, client, manager, acts}
-use Rattle.node_laws.specs.Histories.{Happened, after, Stamped}
+use Rattle.node_laws.specs.Histories.{Happened, after}
 use Rattle.node_laws.specs.Saying.{Whole, ReadsBack, Every, AlwaysReadsBack}
 
 -- a message whose numbers fit their octets

@@ -1,5 +1,5 @@
 -- What a node sends reads back as the frame that it meant.
-use Rattle.std.specs.Prelude.{◌≡◌, ℕ, ◌+◌, ◌<◌, true, List, [], ◌∷◌, length}
+use Rattle.std.specs.Prelude.{◌≡◌, ◌+◌, ◌<◌, true, List, [], ◌∷◌, length}
 use Rattle.layout.specs.Elements.{size_of}
 use Rattle.layout.specs.Reading.{reading, accepted}
 use Rattle.writer.specs.Sent.{placed}

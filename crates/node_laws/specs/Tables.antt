@@ -1,5 +1,5 @@
 -- What holds of a node at every point of every history.
-use Rattle.std.specs.Prelude.{◌≡◌, ℕ, ◌<◌, ◌≤◌, Bool, true, ◌&&◌, List, length}
+use Rattle.std.specs.Prelude.{◌≡◌, ℕ, ◌≤◌, Bool, true, ◌&&◌, List, length}
 use Rattle.switch.specs.Meanings.{Meaning}
 use Rattle.switch.specs.Ports.{is_forwarding}
 use Rattle.settings.specs.Setups.{Setup, within}

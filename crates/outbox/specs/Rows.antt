@@ -1,5 +1,5 @@
 -- A node in the middle of a row of its table, and the actions that a client and a manager share.
-use Rattle.std.specs.Prelude.{◌≡◌, List, [], ◌∷◌, Ok, Err, Result}
+use Rattle.std.specs.Prelude.{◌≡◌, List, [], Ok, Err, Result}
 use Rattle.refusal.specs.declared.Refusal.{Refusal}
 use Rattle.switch.specs.declared.port.Port.{Port}
 use Rattle.switch.specs.declared.port.Port.TheVariants.{One, Two}

@@ -1,5 +1,5 @@
 -- A flood finds a loop, and in a settled ring reaches every other node once exactly if the manager is not ring-open.
-use Rattle.std.proofs.Common.{◌≡◌, ℕ, zero, suc, ◌+◌, ◌-◌, ◌<◌, ◌≤◌, Bool, true, false, cond, ◌&&◌, eqb, ltb, leb, ◌⊎◌, List, Some, None, Option, sym, refl, ap, ◌∙◌, subst, inl, inr, arith}
+use Rattle.std.proofs.Common.{◌≡◌, ℕ, zero, suc, ◌-◌, ◌<◌, ◌≤◌, Bool, true, false, ◌&&◌, ◌⊎◌, None, refl, inl, inr, arith}
 use Rattle.std.proofs.lemmas.Bool.Decides.{nat_tests}
 use Rattle.switch.specs.Ports.{is_forwarding}
 use Rattle.switch.specs.Meanings.{Meaning}
@@ -12,11 +12,11 @@ use Rattle.node.specs.Nodes.{Node, client, manager, timer_in}
 use Rattle.node_laws.specs.Links.{Both}
 use Rattle.node_laws.specs.Clients.{ClientFit}
 use Rattle.node_laws.specs.Managers.{ManagerFit, is_open}
-use Rattle.rings.specs.Places.{all_to, next, turn}
+use Rattle.rings.specs.Places.{next, turn}
 use Rattle.rings.specs.Rings.{Ring, settings_at}
 use Rattle.rings.specs.Calls.{after}
-use Rattle.rings.specs.Floods.{passes, loop, flood, times}
-use Rattle.rings.specs.Laws.{Limits, Settled, EachOnce, open_in, ring_open, TwiceIsLoop, OnceIsClosed}
+use Rattle.rings.specs.Floods.{passes, loop, flood}
+use Rattle.rings.specs.Laws.{Settled, EachOnce, open_in, ring_open, TwiceIsLoop, OnceIsClosed}
 use Rattle.rings.proofs.Places.{next-below}
 use Rattle.rings.proofs.Nodes.{NodeFit}
 use Rattle.rings.proofs.Sound.{linksOf, Sound, sound}

@@ -1,5 +1,5 @@
 -- No test frame is made, kept or lost unseen, and no more than 128 frames wait.
-use Rattle.std.proofs.Common.{◌≡◌, ℕ, zero, suc, ◌+◌, ◌<◌, ◌≤◌, Bool, true, false, cond, ◌&&◌, eqb, ltb, ◌⊎◌, List, [], ◌∷◌, ◌++◌, sym, refl, ap, ◌∙◌, subst, inl, inr, arith}
+use Rattle.std.proofs.Common.{◌≡◌, ℕ, zero, suc, ◌+◌, ◌<◌, ◌≤◌, Bool, true, ◌&&◌, ltb, List, [], ◌∷◌, ◌++◌, sym, refl, ap, subst, inl, inr, arith}
 use Rattle.std.proofs.lemmas.Bool.{and_parts, cases_eq}
 use Rattle.std.proofs.lemmas.Bool.Decides.{nat_tests}
 use Rattle.switch.specs.declared.port.Port.{Port}
@@ -8,10 +8,10 @@ use Rattle.switch.specs.Meanings.{Meaning}
 use Rattle.settings.specs.Setups.{Setup, in_time, in_count}
 use Rattle.settings.proofs.Limits.{Counts, in_count_lem}
 use Rattle.rings.specs.Places.{change, sum_to}
-use Rattle.rings.specs.Traffic.{Frame, Traffic, Queues, Out, tests, any, weigh, requeue, held, join, drop, home, born, rest, uncork, purge, send}
+use Rattle.rings.specs.Traffic.{Frame, Traffic, Queues, Out, tests, any, weigh, requeue, held, join, drop, born, rest}
 use Rattle.rings.specs.Rings.{Ring, settings_at}
 use Rattle.rings.specs.Calls.{Call, first, sentences, step, after}
-use Rattle.rings.specs.Laws.{Limits, TestsAddUp, AtMost128, allSent, allArrived, allLost, waiting}
+use Rattle.rings.specs.Laws.{Limits, TestsAddUp, AtMost128}
 use Rattle.rings.proofs.Places.{change_here, change_there, either}
 use Rattle.rings.proofs.Steady.{Every, Steady, RightRing, steady, right}
 

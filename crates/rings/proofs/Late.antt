@@ -1,5 +1,5 @@
 -- The manager opens only after its count of run-outs, and closes on a test frame that comes home.
-use Rattle.std.proofs.Common.{◌≡◌, ℕ, zero, suc, ◌+◌, ◌-◌, ◌<◌, ◌≤◌, Bool, true, false, cond, not, ◌&&◌, ◌||◌, eqb, ltb, leb, List, [], ◌∷◌, Some, None, Option, sym, refl, ap, ◌∙◌, subst, arith}
+use Rattle.std.proofs.Common.{◌≡◌, ℕ, zero, suc, ◌+◌, ◌-◌, ◌<◌, ◌≤◌, Bool, true, false, cond, ◌&&◌, ◌||◌, eqb, ltb, List, [], ◌∷◌, Some, None, Option, refl, ap, ◌∙◌, arith}
 use lib.Dec.{eqb-suc-zero}
 use Rattle.std.proofs.lemmas.Bool.{both_ways}
 use Rattle.std.proofs.lemmas.Bool.Decides.{nat_tests}
@@ -14,19 +14,18 @@ use Rattle.hearing.specs.Heards.{heard}
 use Rattle.hearing.specs.declared.Heard.TheVariants.{OwnTest}
 use Rattle.outbox.specs.Rows.{opened}
 use Rattle.manager.specs.Machines.{Machine}
-use Rattle.manager.specs.Rows as manager-rows
 use Rattle.manager.specs.declared.state.State.{State}
 use Rattle.manager.specs.declared.state.State.TheVariants.{AcStat1, PrmUp, ChkRc, ChkRo}
 use Rattle.node.specs.Nodes.{Node, client, manager, acts, passed_by, setup_of}
 use Rattle.node_laws.specs.Links.{Both}
 use Rattle.node_laws.specs.Managers.{ManagerFit, is_open}
-use Rattle.rings.specs.Places.{change, next, back, link_at, landing}
-use Rattle.rings.specs.Traffic.{Frame, Traffic, Out, is_test, tests, join, drop, send, emit, uncork, purge}
-use Rattle.rings.specs.Rings.{Ring, settings_at, with_flow, with_link, ticked, outs, acted, tell, ends, taken, bring, let_go}
+use Rattle.rings.specs.Places.{next, link_at, landing}
+use Rattle.rings.specs.Traffic.{Frame, Traffic, Out, is_test, join, drop, send, emit, uncork, purge}
+use Rattle.rings.specs.Rings.{Ring, settings_at, with_flow, with_link, outs, acted, tell, ends, taken, bring, let_go}
 use Rattle.rings.specs.Calls.{Call, link_up, link_down, carry, lose, expire, first, sentences, leaves_by, act, begun, proceed, step, after}
 use Rattle.rings.specs.Floods.{loop}
-use Rattle.rings.specs.Laws.{Limits, open_in, ring_open, second_up, test_ran_out, count_run_out, run_outs, OpenIsLate, HomeLeavesNone}
-use Rattle.rings.proofs.Places.{change_here, change_there, landing-below, next-below}
+use Rattle.rings.specs.Laws.{Limits, open_in, second_up, test_ran_out, count_run_out, run_outs, OpenIsLate, HomeLeavesNone}
+use Rattle.rings.proofs.Places.{landing-below}
 use Rattle.rings.proofs.Nodes.{Right, NodeFit}
 use Rattle.rings.proofs.Sound.{place, granted-place, linksOf, Sound, sound}
 use Rattle.rings.proofs.Steady.{Every}

@@ -1,8 +1,7 @@
 -- A loop stands only where the manager is ring-open, and no link up starts one.
-use Rattle.std.proofs.Common.{◌≡◌, ℕ, zero, suc, ◌<◌, ◌≤◌, Bool, true, false, cond, ◌&&◌, eqb, leb, List, [], ◌∷◌, sym, refl, ap, ◌∙◌, subst, arith}
+use Rattle.std.proofs.Common.{◌≡◌, ℕ, zero, suc, ◌<◌, ◌≤◌, Bool, true, false, ◌&&◌, sym, refl, ◌∙◌, subst, arith}
 use Rattle.std.proofs.lemmas.Bool.{both_ways}
 use Rattle.std.proofs.lemmas.Bool.Decides.{nat_tests}
-use Rattle.switch.specs.declared.port.Port.{Port}
 use Rattle.switch.specs.declared.port.Port.TheVariants.{One, Two}
 use Rattle.switch.specs.Ports.{is_forwarding}
 use Rattle.switch.specs.Meanings.{Meaning}
@@ -19,11 +18,11 @@ use Rattle.node_laws.specs.Links.{Both}
 use Rattle.node_laws.specs.Clients.{ClientFit}
 use Rattle.node_laws.specs.Managers.{ManagerFit}
 use Rattle.node_laws.proofs.Managers.{both_forward_lem}
-use Rattle.rings.specs.Places.{change, all_to, next, back}
+use Rattle.rings.specs.Places.{all_to, next, back}
 use Rattle.rings.specs.Rings.{Ring, settings_at, with_link, acted, tell, ends}
-use Rattle.rings.specs.Calls.{Call, link_up, first, sentences, begun, proceed, step, after}
-use Rattle.rings.specs.Floods.{passing, passes, loop}
-use Rattle.rings.specs.Laws.{Limits, open_in, ring_open, LoopIsOpen, LinkUpStartsNone}
+use Rattle.rings.specs.Calls.{link_up, first, sentences, begun, proceed, step, after}
+use Rattle.rings.specs.Floods.{passing, loop}
+use Rattle.rings.specs.Laws.{open_in, ring_open, LoopIsOpen, LinkUpStartsNone}
 use Rattle.rings.proofs.Places.{change_here, change_there, next-back, back_below}
 use Rattle.rings.proofs.Nodes.{NodeFit}
 use Rattle.rings.proofs.Sound.{linksOf, Sound, sound}

@@ -1,9 +1,8 @@
 -- What every node of a ring is, whatever it was told: node 0 the manager and all others clients, with their settings.
-use Rattle.std.proofs.Common.{◌≡◌, ℕ, zero, suc, ◌<◌, ◌≤◌, Bool, true, refl, arith}
-use Rattle.std.proofs.lemmas.Bool.{and_parts}
+use Rattle.std.proofs.Common.{ℕ, zero, suc, Bool, refl, arith}
 use Rattle.switch.specs.Meanings.{Meaning}
-use Rattle.settings.specs.Setups.{Setup, within, in_time, in_count}
-use Rattle.settings.proofs.Limits.{Counts, in_count_lem}
+use Rattle.settings.specs.Setups.{Setup}
+use Rattle.settings.proofs.Limits.{Counts}
 use Rattle.event.specs.Events.{Event}
 use Rattle.outbox.specs.Rows.{opened}
 use Rattle.node.specs.Nodes.{Node, client, manager, acts, started}

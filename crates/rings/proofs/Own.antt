@@ -1,7 +1,6 @@
 -- Every test frame that waits is heard by the manager as its own.
-use Rattle.std.proofs.Common.{◌≡◌, ℕ, zero, suc, ◌<◌, ◌≤◌, Bool, true, false, cond, ◌&&◌, eqb, ltb, List, [], ◌∷◌, ◌++◌, length, sym, refl, ap, ◌∙◌, subst, arith}
+use Rattle.std.proofs.Common.{◌≡◌, ℕ, zero, suc, ◌<◌, Bool, true, false, ◌&&◌, eqb, ltb, List, [], ◌∷◌, ◌++◌, sym, refl, ap, ◌∙◌, subst, arith}
 use Rattle.std.proofs.lemmas.Bool.{and_parts, both_ways}
-use Rattle.layout.specs.Reading.{reading}
 use Rattle.switch.specs.declared.port.Port.{Port}
 use Rattle.switch.specs.declared.port.Port.TheVariants.{One, Two}
 use Rattle.switch.specs.Meanings.{Meaning}
@@ -22,14 +21,13 @@ use Rattle.node.specs.Nodes.{Node, client, manager, setup_of, acts}
 use Rattle.node_laws.specs.Saying as saying
 use Rattle.node_laws.specs.Saying.{Whole, ReadsBack}
 use Rattle.node_laws.proofs.Says.{Fitting, Sized, said_back, fitting}
-use Rattle.rings.specs.Places.{change}
-use Rattle.rings.specs.Traffic.{Frame, Traffic, Queues, Out, is_test, test_read, begins, any, held, requeue, join, drop, home, born, rest, uncork, purge, send}
-use Rattle.rings.specs.Rings.{Ring, settings_at, outs}
+use Rattle.rings.specs.Traffic.{Frame, Traffic, is_test, test_read, begins, any, held, requeue, join, drop, born, rest}
+use Rattle.rings.specs.Rings.{settings_at, outs}
 use Rattle.rings.specs.Calls.{Call, first, sentences, after}
 use Rattle.rings.specs.Laws.{Limits}
 use Rattle.rings.proofs.Places.{either}
 use Rattle.rings.proofs.Nodes.{Right}
-use Rattle.rings.proofs.Steady.{Every, Steady, RightRing, steady, right}
+use Rattle.rings.proofs.Steady.{Every, Steady, steady, right}
 use Rattle.rings.proofs.Flow.{counts_of}
 
 abbrev pub Own : Setup → Frame → Type 0

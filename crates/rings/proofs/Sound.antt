@@ -1,5 +1,5 @@
 -- Every node fits its links, after every history.
-use Rattle.std.proofs.Common.{◌≡◌, ℕ, zero, suc, ◌-◌, ◌<◌, ◌≤◌, Bool, true, false, cond, eqb, List, [], ◌∷◌, sym, refl, ap, ◌∙◌, subst, arith}
+use Rattle.std.proofs.Common.{◌≡◌, ℕ, zero, suc, ◌<◌, ◌≤◌, Bool, true, false, List, [], ◌∷◌, refl, ap, ◌∙◌, subst, arith}
 use Rattle.std.proofs.lemmas.Bool.Decides.{nat_tests}
 use Rattle.switch.specs.declared.port.Port.{Port}
 use Rattle.switch.specs.declared.port.Port.TheVariants.{One, Two}
@@ -8,11 +8,11 @@ use Rattle.switch.specs.Meanings.{Meaning}
 use Rattle.settings.specs.Setups.{Setup}
 use Rattle.settings.proofs.Limits.{Counts}
 use Rattle.event.specs.Events.{Event, turns, hears, expires}
-use Rattle.node.specs.Nodes.{Node, passed_by}
+use Rattle.node.specs.Nodes.{passed_by}
 use Rattle.node_laws.specs.Links.{Both, both, put, told}
 use Rattle.rings.specs.Places.{change, next, back, landing}
 use Rattle.rings.specs.Traffic.{Frame, uncork, purge}
-use Rattle.rings.specs.Rings.{Ring, settings_at, fresh, with_flow, with_link, ticked, acted, tell, ends, taken, comes, bring, let_go}
+use Rattle.rings.specs.Rings.{Ring, settings_at, fresh, with_flow, with_link, acted, tell, ends, taken, bring, let_go}
 use Rattle.rings.specs.Calls.{Call, link_up, link_down, carry, lose, expire, first, sentences, leaves_by, act, begun, proceed, step, after}
 use Rattle.rings.proofs.Places.{change_all, next-below, landing-below}
 use Rattle.rings.proofs.Nodes.{NodeFit, fit_kept, right_started}

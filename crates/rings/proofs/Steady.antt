@@ -1,5 +1,5 @@
 -- What holds of the traffic after every history, if each thing that can happen to a frame keeps it.
-use Rattle.std.proofs.Common.{◌≡◌, ℕ, zero, suc, ◌+◌, ◌%◌, ◌<◌, ◌≤◌, Bool, true, false, cond, List, [], ◌∷◌, Some, None, Option, refl, arith}
+use Rattle.std.proofs.Common.{◌≡◌, ℕ, zero, suc, ◌<◌, ◌≤◌, Bool, true, false, List, [], ◌∷◌, Some, None, Option, refl, arith}
 use Rattle.switch.specs.declared.port.Port.{Port}
 use Rattle.switch.specs.declared.port.Port.TheVariants.{One, Two}
 use Rattle.switch.specs.Ports.{other}
@@ -10,7 +10,7 @@ use Rattle.event.specs.Events.{Event, turns, hears, expires}
 use Rattle.outbox.specs.Rows.{opened}
 use Rattle.node.specs.Nodes.{Node, client, manager, setup_of, acts, passed_by}
 use Rattle.rings.specs.Places.{next, link_at, landing}
-use Rattle.rings.specs.Traffic.{Frame, Traffic, Out, join, drop, home, send, emit, uncork, purge, pass_on}
+use Rattle.rings.specs.Traffic.{Frame, Traffic, Out, join, drop, home, send, emit, uncork, purge}
 use Rattle.rings.specs.Rings.{Ring, settings_at, with_flow, with_link, outs, acted, tell, ends, taken, bring, let_go}
 use Rattle.rings.specs.Calls.{Call, link_up, link_down, carry, lose, expire, first, sentences, leaves_by, act, begun, proceed, step, after}
 use Rattle.rings.proofs.Places.{either, change_all, next-below, at-below, landing-below}

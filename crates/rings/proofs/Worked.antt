@@ -1,7 +1,6 @@
 -- The worked history, computed.
-use Rattle.std.proofs.Common.{◌≡◌, ℕ, refl}
+use Rattle.std.proofs.Common.{refl}
 use Rattle.layout.specs.Elements.{stands, element_at}
-use Rattle.switch.specs.Meanings.{Meaning}
 use Rattle.hearing.specs.Heards.{heard}
 use Rattle.outbox.specs.Messages.{octets_of}
 use Rattle.rings.specs.Traffic.{is_test}

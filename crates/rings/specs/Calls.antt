@@ -4,11 +4,10 @@ use Rattle.switch.specs.declared.port.Port.{Port}
 use Rattle.switch.specs.declared.port.Port.TheVariants.{One, Two}
 use Rattle.switch.specs.Meanings.{Meaning}
 use Rattle.settings.specs.Setups.{Setup}
-use Rattle.event.specs.Events.{expires, timer_of, run_out}
+use Rattle.event.specs.Events.{expires}
 use Rattle.refusal.specs.declared.Refusal.{Refusal}
-use Rattle.refusal.specs.Refusals.{number_of}
-use Rattle.node.specs.Nodes.{Node, expire_answer}
-use Rattle.rings.specs.Traffic.{Frame, traffic, purge}
+use Rattle.node.specs.Nodes.{expire_answer}
+use Rattle.rings.specs.Traffic.{traffic, purge}
 use Rattle.rings.specs.Rings.{Ring, fresh, with_flow, with_link, ticked, tell, ends, bring, let_go}
 
 -- a link and perhaps a direction, or a node and a timer

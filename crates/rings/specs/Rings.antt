@@ -5,7 +5,7 @@ use Rattle.switch.specs.declared.port.Port.TheVariants.{One, Two}
 use Rattle.switch.specs.Ports.{other}
 use Rattle.switch.specs.Meanings.{Meaning}
 use Rattle.settings.specs.Setups.{Setup}
-use Rattle.event.specs.Events.{Event, turns, hears, expires}
+use Rattle.event.specs.Events.{Event, turns, hears}
 use Rattle.outbox.specs.Messages.{octets_of}
 use Rattle.outbox.specs.Boxes.{Sent}
 use Rattle.outbox.specs.Rows.{Row, opened, quiet}

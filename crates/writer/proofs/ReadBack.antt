@@ -1,11 +1,11 @@
 -- What is encoded from the fields of an outgoing frame is read back as those fields.
-use Rattle.std.proofs.Common.{◌≡◌, ℕ, ◌+◌, ◌<◌, ◌≤◌, Bool, true, false, ◌&&◌, leb, List, [], ◌∷◌, ◌++◌, length, get_or, replicate, sym, refl, ap, ◌∙◌, subst, arith}
+use Rattle.std.proofs.Common.{◌≡◌, ℕ, ◌+◌, ◌<◌, ◌≤◌, Bool, true, false, ◌&&◌, leb, List, ◌++◌, length, get_or, replicate, arith}
 use Rattle.std.proofs.lemmas.Bool.{and_parts}
 use Rattle.kind.specs.Kinds.{span_of}
 use Rattle.layout.specs.Elements.{is_priority, in_values, size_of}
 use Rattle.layout.specs.Reading.{reading, accepted}
 use Rattle.layout.specs.Layout.{encode}
-use Rattle.layout.proofs.Back.{all_listed, listed, test_back, change_back, down_back, up_back}
+use Rattle.layout.proofs.Back.{all_listed, test_back, change_back, down_back, up_back}
 use Rattle.frame.specs.declared.content.PortRole.{PortRole}
 use Rattle.frame.specs.declared.content.PortRole.TheVariants.{Primary, Secondary}
 use Rattle.frame.specs.declared.content.RingState.{RingState}

@@ -1,5 +1,4 @@
 use Rattle.std.proofs.Common.{◌≡◌, true, is_some, ◌∙◌, arith, rules}
-use Rattle.std.proofs.lemmas.Bool.Decides.{nat_tests}
 use Rattle.kind.specs.Kinds.{destination_of}
 use Rattle.element.specs.Shown.{head_shown}
 use Rattle.frame.proofs.Law.{past_head, laid_out}

@@ -4,7 +4,7 @@ use Rattle.layout.specs.Elements.{in_values, kind_of, span_at}
 use Rattle.writer.specs.declared.outgoing.Body.{Body}
 use Rattle.writer.specs.declared.outgoing.Body.TheVariants.{Test, TopologyChange, LinkDown, LinkUp}
 use Rattle.writer.specs.Sent.{body_shown, body_kind}
-use Rattle.writer.specs.Writing.{Answer, wrote, refused}
+use Rattle.writer.specs.Writing.{wrote, refused}
 use Rattle.firmware.specs.Answers.{Sent}
 use Rattle.firmware.proofs.sending.send.Goals as goal
 

@@ -1,5 +1,5 @@
 -- The first octet, then each of the others after a dash.
-use Rattle.std.proofs.Common.{◌≡◌, ℕ, ◌+◌, ◌-◌, ◌<◌, [], ◌∷◌, ◌++◌, length, get_or, take, drop, string_bytes, sym, ap, ◌∙◌, arith, rules}
+use Rattle.std.proofs.Common.{◌+◌, ◌-◌, ◌<◌, ◌++◌, length, get_or, take, drop, string_bytes, ap, ◌∙◌, arith, rules}
 use Rattle.text.specs.Text.{pair_text, dashes_text}
 use Rattle.text.proofs.Dashes.{dashes_begin, dashes_more, dashes_end}
 use Rattle.text.proofs.octets.octets_text.Goals as goal

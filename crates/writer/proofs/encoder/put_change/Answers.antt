@@ -1,5 +1,5 @@
-use Rattle.std.proofs.Common.{◌≡◌, ◌+◌, ◌≤◌, [], ◌∷◌, length, sym, refl, ap, ◌∙◌, arith, rules}
-use Rattle.layout.specs.Layout.{two, four}
+use Rattle.std.proofs.Common.{◌≡◌, ◌+◌, ◌≤◌, [], ◌∷◌, length, arith, rules}
+use Rattle.layout.specs.Layout.{two}
 use Rattle.writer.proofs.Puts.{first, more}
 use Rattle.writer.proofs.encoder.put_change.Goals as goal
 

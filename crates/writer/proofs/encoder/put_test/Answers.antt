@@ -1,4 +1,4 @@
-use Rattle.std.proofs.Common.{◌≡◌, ◌+◌, ◌≤◌, [], ◌∷◌, length, sym, refl, ap, ◌∙◌, arith, rules}
+use Rattle.std.proofs.Common.{◌≡◌, ◌+◌, ◌≤◌, [], ◌∷◌, length, arith, rules}
 use Rattle.layout.specs.Layout.{two, four}
 use Rattle.writer.proofs.Puts.{first, more}
 use Rattle.writer.proofs.encoder.put_test.Goals as goal
