@@ -91,22 +91,22 @@ tells_down r = r ▷ sends (down_in r.machine)
 -- a port comes up; the Bool tells whether it is P
 abbrev pub up : State → Bool → Port → Row → Row
 -- C2, C4
-up AcStat1 isP p r = r ▷ names p ▷ sets_p Forwarding ▷ goes DeIdle
+up AcStat1 is_p p r = r ▷ names p ▷ sets_p Forwarding ▷ goes DeIdle
 -- C9, C6
 up DeIdle true p r = r
 up DeIdle false p r = r ▷ refills ▷ starts_up ▷ tells_up ▷ goes Pt
 -- C16, C13
-up Pt isP p r = r
+up Pt is_p p r = r
 -- C23, C20
 up De true p r = r
 up De false p r = r ▷ refills ▷ stops_down ▷ starts_up ▷ tells_up ▷ goes Pt
 -- C28, C25
-up PtIdle isP p r = r
+up PtIdle is_p p r = r
 
 -- a port goes down
 abbrev pub down : State → Bool → Row → Row
 -- C3
-down AcStat1 isP r = r
+down AcStat1 is_p r = r
 -- C8, C7
 down DeIdle true r = r ▷ sets_p Blocked ▷ goes AcStat1
 down DeIdle false r = r

@@ -115,12 +115,12 @@ module _ (stamp : ℕ) where
   -- a port comes up; the Bool tells whether it is P
   abbrev pub up : State → Bool → Port → Row → Row
   -- M1
-  up AcStat1 isP p r = r ▷ names p ▷ sets_p Forwarding ▷ goes PrmUp ▷ tests stamp
+  up AcStat1 is_p p r = r ▷ names p ▷ sets_p Forwarding ▷ goes PrmUp ▷ tests stamp
   -- M3
   up PrmUp false p r = r ▷ misses 0 ▷ goes ChkRc ▷ tests stamp
   up PrmUp true p r = r
-  up ChkRc isP p r = r
-  up ChkRo isP p r = r
+  up ChkRc is_p p r = r
+  up ChkRo is_p p r = r
 
   -- one of two ports goes down
   abbrev pub parts : Bool → Row → Row
@@ -131,12 +131,12 @@ module _ (stamp : ℕ) where
 
   -- a port goes down
   abbrev pub down : State → Bool → Row → Row
-  down AcStat1 isP r = r
+  down AcStat1 is_p r = r
   -- M2
   down PrmUp true r = r ▷ sets_p Blocked ▷ stops_test ▷ goes AcStat1
   down PrmUp false r = r
-  down ChkRc isP r = parts isP r
-  down ChkRo isP r = parts isP r
+  down ChkRc is_p r = parts is_p r
+  down ChkRo is_p r = parts is_p r
 
   -- M7: a test was missed; the Bool tells whether one more may be
   abbrev pub missed : Bool → Row → Row
@@ -144,12 +144,12 @@ module _ (stamp : ℕ) where
   missed false r = r ▷ sets_s Forwarding ▷ goes ChkRo ▷ announces ▷ tests stamp ▷ counts
 
   -- the test timer has run out, and is stopped
-  abbrev pub testOut : State → Row → Row
-  testOut AcStat1 r = r
+  abbrev pub test_out : State → Row → Row
+  test_out AcStat1 r = r
   -- M6
-  testOut PrmUp r = r ▷ tests stamp
-  testOut ChkRo r = r ▷ tests stamp
-  testOut ChkRc r = missed (nat_lt r.machine.misses (r.machine.setup.test_count - 1)) r
+  test_out PrmUp r = r ▷ tests stamp
+  test_out ChkRo r = r ▷ tests stamp
+  test_out ChkRc r = missed (nat_lt r.machine.misses (r.machine.setup.test_count - 1)) r
 
   -- M8: an own Test comes home; where only one link is up it is late
   abbrev pub home : State → Row → Row
@@ -180,14 +180,14 @@ module _ (stamp : ℕ) where
   turns false p r = down r.machine.state (same_port p r.machine.primary) r
 
   -- M10: the topology timer has run out, and is stopped; the Bool tells whether repeats are left
-  abbrev pub topologyOut : Bool → Row → Row
-  topologyOut true r = r ▷ tells r.machine.repeats ▷ repeats (r.machine.repeats - 1) ▷ starts_topology
-  topologyOut false r = r ▷ tells 0 ▷ clears ▷ repeats (r.machine.setup.topology_count - 1)
+  abbrev pub topology_out : Bool → Row → Row
+  topology_out true r = r ▷ tells r.machine.repeats ▷ repeats (r.machine.repeats - 1) ▷ starts_topology
+  topology_out false r = r ▷ tells 0 ▷ clears ▷ repeats (r.machine.setup.topology_count - 1)
 
   -- a timer that runs has run out: it is stopped, then its row acts
   abbrev pub fires : Timer → Row → Row
-  fires timer.Test r = r ▷ stops_test ▷ testOut r.machine.state
-  fires timer.Topology r = r ▷ stops_topology ▷ topologyOut (nat_lt 0 r.machine.repeats)
+  fires timer.Test r = r ▷ stops_test ▷ test_out r.machine.state
+  fires timer.Topology r = r ▷ stops_topology ▷ topology_out (nat_lt 0 r.machine.repeats)
   fires timer.LinkUp r = r
   fires timer.LinkDown r = r
   fires timer.Clear r = r

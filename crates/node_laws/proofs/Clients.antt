@@ -26,7 +26,7 @@ module _ (m : Machine) (w : Meaning) (l : Both Bool) (fit : ClientFit m w l) whe
   expired (Err e) = fit
   expired (Ok t) = grind arith
 
-  pub client-kept : (e : Event) → ClientFit (acts e (opened m w)).machine (acts e (opened m w)).switch (told e l)
-  client-kept (event.turns p b) = turned p b
-  client-kept (event.hears p xs) = listened (heard m.setup xs)
-  client-kept (event.expires n) = expired (timer_of n)
+  pub client_kept : (e : Event) → ClientFit (acts e (opened m w)).machine (acts e (opened m w)).switch (told e l)
+  client_kept (event.turns p b) = turned p b
+  client_kept (event.hears p xs) = listened (heard m.setup xs)
+  client_kept (event.expires n) = expired (timer_of n)

@@ -17,11 +17,11 @@ use Rattle.node_laws.specs.Links.{Both, told}
 use Rattle.node_laws.specs.Histories.{Happened, after, links_after}
 use Rattle.node_laws.specs.Managers.{Counted}
 use Rattle.node_laws.specs.Tables.{Fit, AlwaysFit, Opens, AlwaysOpens, InCount, AlwaysInCount, FourFrames}
-use Rattle.node_laws.proofs.Clients.{client-kept}
+use Rattle.node_laws.proofs.Clients.{client_kept}
 use Rattle.node_laws.proofs.Managers.{manager_kept, both_forward_lem, counted_kept, setup_kept}
 
 pub kept : (stamp : ℕ) (e : Event) (n : Node) (w : Meaning) (l : Both Bool) → Fit n w l → Fit (acts stamp e (opened n w)).machine (acts stamp e (opened n w)).switch (told e l)
-kept stamp e (client m) w l fit = client-kept m w l fit e
+kept stamp e (client m) w l fit = client_kept m w l fit e
 kept stamp e (manager m) w l fit = manager_kept stamp e m w l fit
 
 pub always_fit : AlwaysFit

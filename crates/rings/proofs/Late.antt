@@ -25,13 +25,13 @@ use Rattle.rings.specs.Rings.{Ring, settings_at, with_flow, with_link, outs, act
 use Rattle.rings.specs.Calls.{Call, link_up, link_down, carry, lose, expire, first, sentences, leaves_by, act, begun, proceed, step, after}
 use Rattle.rings.specs.Floods.{loop}
 use Rattle.rings.specs.Laws.{Limits, open_in, second_up, test_ran_out, count_run_out, run_outs, OpenIsLate, HomeLeavesNone}
-use Rattle.rings.proofs.Places.{landing-below}
+use Rattle.rings.proofs.Places.{landing_below}
 use Rattle.rings.proofs.Nodes.{Right, NodeFit}
-use Rattle.rings.proofs.Sound.{place, granted-place, linksOf, Sound, sound}
+use Rattle.rings.proofs.Sound.{place, granted_place, links_of, Sound, sound}
 use Rattle.rings.proofs.Steady.{Every}
 use Rattle.rings.proofs.Own.{Own, Kept, all_own}
 use Rattle.rings.proofs.Flow.{counts_of}
-use Rattle.rings.proofs.Loops.{loop-open, never}
+use Rattle.rings.proofs.Loops.{loop_open, never}
 
 -- the run-outs that the manager's state rests on
 abbrev owed : Machine → State → ℕ
@@ -89,47 +89,47 @@ count_le : (arr : ℕ) (sec ran : Bool) (o o' m : ℕ) → (0 < arr → o' ≡ 0
 count_le arr sec ran o o' m home up more old = grind (arith, nat_tests)
 
 module _ (n : ℕ) where
-  tell-owes : (k : ℕ) (e : Event) (r : Ring) → owes ((tell n k e r).nodes 0) ≤ owes (r.nodes 0) + cost e
-  tell-owes zero e r = told_owes r.expired e (r.nodes 0) (r.switches 0)
-  tell-owes (suc k) e r = rw (eqb-suc-zero k) (omega arith)
+  tell_owes : (k : ℕ) (e : Event) (r : Ring) → owes ((tell n k e r).nodes 0) ≤ owes (r.nodes 0) + cost e
+  tell_owes zero e r = told_owes r.expired e (r.nodes 0) (r.switches 0)
+  tell_owes (suc k) e r = rw (eqb-suc-zero k) (omega arith)
 
-  tell-timer : (k t : ℕ) (r : Ring) → owes ((tell n k (expires t) r).nodes 0) ≤ owes (r.nodes 0) + cond (eqb k 0 && eqb t 0) 1 0
-  tell-timer zero t r = tell-owes zero (expires t) r
-  tell-timer (suc k) t r = rw (eqb-suc-zero k) (omega arith)
+  tell_timer : (k t : ℕ) (r : Ring) → owes ((tell n k (expires t) r).nodes 0) ≤ owes (r.nodes 0) + cond (eqb k 0 && eqb t 0) 1 0
+  tell_timer zero t r = tell_owes zero (expires t) r
+  tell_timer (suc k) t r = rw (eqb-suc-zero k) (omega arith)
 
-  send-arrived : (l : ℕ → Bool) (p : Port) (i : ℕ) (f : Frame) (t : Traffic) → (send n l p i f t).arrived ≡ t.arrived
-  send-arrived l p i f t = grind arith
+  send_arrived : (l : ℕ → Bool) (p : Port) (i : ℕ) (f : Frame) (t : Traffic) → (send n l p i f t).arrived ≡ t.arrived
+  send_arrived l p i f t = grind arith
 
-  emit-arrived : (l : ℕ → Bool) (k : ℕ) (os : List Out) (t : Traffic) → (emit n l k os t).arrived ≡ t.arrived
-  emit-arrived l k [] t = refl
-  emit-arrived l k (o ∷ os) t = emit-arrived l k os (send n l o.port (link_at n k o.port) o.frame t) ∙ send-arrived l o.port (link_at n k o.port) o.frame t
+  emit_arrived : (l : ℕ → Bool) (k : ℕ) (os : List Out) (t : Traffic) → (emit n l k os t).arrived ≡ t.arrived
+  emit_arrived l k [] t = refl
+  emit_arrived l k (o ∷ os) t = emit_arrived l k os (send n l o.port (link_at n k o.port) o.frame t) ∙ send_arrived l o.port (link_at n k o.port) o.frame t
 
-  tell-arrived : (k : ℕ) (e : Event) (r : Ring) → (tell n k e r).flow.arrived ≡ r.flow.arrived
-  tell-arrived k e r = emit-arrived r.links k (outs (setup_of (r.nodes k)) (acted k e r).sent) r.flow
+  tell_arrived : (k : ℕ) (e : Event) (r : Ring) → (tell n k e r).flow.arrived ≡ r.flow.arrived
+  tell_arrived k e r = emit_arrived r.links k (outs (setup_of (r.nodes k)) (acted k e r).sent) r.flow
 
-  ends-arrived : (i : ℕ) (b : Bool) (r : Ring) → (ends n i b r).flow.arrived ≡ r.flow.arrived
-  ends-arrived i b r = tell-arrived (next n i) (turns One b) (tell n i (turns Two b) r) ∙ tell-arrived i (turns Two b) r
+  ends_arrived : (i : ℕ) (b : Bool) (r : Ring) → (ends n i b r).flow.arrived ≡ r.flow.arrived
+  ends_arrived i b r = tell_arrived (next n i) (turns One b) (tell n i (turns Two b) r) ∙ tell_arrived i (turns Two b) r
 
-  ends-owes : (i : ℕ) (b : Bool) (r : Ring) → owes ((ends n i b r).nodes 0) ≤ owes (r.nodes 0)
-  ends-owes i b r = omega (arith, tell-owes (next n i) (turns One b) (tell n i (turns Two b) r), tell-owes i (turns Two b) r)
+  ends_owes : (i : ℕ) (b : Bool) (r : Ring) → owes ((ends n i b r).nodes 0) ≤ owes (r.nodes 0)
+  ends_owes i b r = omega (arith, tell_owes (next n i) (turns One b) (tell n i (turns Two b) r), tell_owes i (turns Two b) r)
 
-  bring-owes : (fs : List Frame) (p : Port) (i : ℕ) (r : Ring) → owes ((bring n fs p i r).nodes 0) ≤ owes (r.nodes 0)
-  bring-owes [] p i r = omega arith
-  bring-owes (f ∷ fs) p i r =
+  bring_owes : (fs : List Frame) (p : Port) (i : ℕ) (r : Ring) → owes ((bring n fs p i r).nodes 0) ≤ owes (r.nodes 0)
+  bring_owes [] p i r = omega arith
+  bring_owes (f ∷ fs) p i r =
       let k : ℕ = landing n p i in
-      omega (arith, tell-owes k (hears (other p) f.octets) (with_flow (taken n r.links k (r.nodes k) (passed_by (other p) f.octets (r.nodes k)) f (uncork p i r.flow)) r))
+      omega (arith, tell_owes k (hears (other p) f.octets) (with_flow (taken n r.links k (r.nodes k) (passed_by (other p) f.octets (r.nodes k)) f (uncork p i r.flow)) r))
 
-  lose-owes : (fs : List Frame) (p : Port) (i : ℕ) (r : Ring) → owes ((let_go fs p i r).nodes 0) ≤ owes (r.nodes 0)
-  lose-owes [] p i r = omega arith
-  lose-owes (f ∷ fs) p i r = omega arith
+  lose_owes : (fs : List Frame) (p : Port) (i : ℕ) (r : Ring) → owes ((let_go fs p i r).nodes 0) ≤ owes (r.nodes 0)
+  lose_owes [] p i r = omega arith
+  lose_owes (f ∷ fs) p i r = omega arith
 
   -- a call costs what the manager's run-out costs
-  act-owes : (x : Call) (r : Ring) → r.refusal ≡ 0 → owes ((act n x r).nodes 0) ≤ owes (r.nodes 0) + cond (test_ran_out x (act n x r)) 1 0
-  act-owes (link_up i) r go = omega (arith, ends-owes i true (with_link i true r))
-  act-owes (link_down i) r go = omega (arith, ends-owes i false (with_link i false (with_flow (purge One i (purge Two i r.flow)) r)))
-  act-owes (carry i d) r go = omega (arith, bring-owes (r.flow.queues (leaves_by d) i) (leaves_by d) i r)
-  act-owes (lose i d) r go = omega (arith, lose-owes (r.flow.queues (leaves_by d) i) (leaves_by d) i r)
-  act-owes (expire k t) r go = rw go (tell-timer k t r)
+  act_owes : (x : Call) (r : Ring) → r.refusal ≡ 0 → owes ((act n x r).nodes 0) ≤ owes (r.nodes 0) + cond (test_ran_out x (act n x r)) 1 0
+  act_owes (link_up i) r go = omega (arith, ends_owes i true (with_link i true r))
+  act_owes (link_down i) r go = omega (arith, ends_owes i false (with_link i false (with_flow (purge One i (purge Two i r.flow)) r)))
+  act_owes (carry i d) r go = omega (arith, bring_owes (r.flow.queues (leaves_by d) i) (leaves_by d) i r)
+  act_owes (lose i d) r go = omega (arith, lose_owes (r.flow.queues (leaves_by d) i) (leaves_by d) i r)
+  act_owes (expire k t) r go = rw go (tell_timer k t r)
 
   -- a test frame arrives only at a manager
   arrives : (l : ℕ → Bool) (k : ℕ) (x : Node) (o : Option Port) (f : Frame) (t : Traffic) → t.arrived ≡ 0 → 0 < (taken n l k x o f t).arrived → (is_manager x ≡ true) × (is_test f.octets ≡ true)
@@ -150,87 +150,87 @@ module _ (n : ℕ) where
     home_at zero q xs r g is e = node_home s r.expired q xs (r.nodes 0) (r.switches 0) g e
     home_at (suc k) q xs r g is e = absurd (both_ways (is_manager (r.nodes (suc k))) (others_clients s k (r.nodes (suc k)) g) is)
 
-    bring-home : (fs : List Frame) (p : Port) (i : ℕ) (r : Ring) → i < n → ((k : ℕ) → k < n → Right s k (r.nodes k)) → Every (Own s) fs → r.flow.arrived ≡ 0 → 0 < (bring n fs p i r).flow.arrived → owes ((bring n fs p i r).nodes 0) ≡ 0
-    bring-home [] p i r hi g own none h = absurd (omega arith)
-    bring-home (f ∷ fs) p i r hi g own none h =
+    bring_home : (fs : List Frame) (p : Port) (i : ℕ) (r : Ring) → i < n → ((k : ℕ) → k < n → Right s k (r.nodes k)) → Every (Own s) fs → r.flow.arrived ≡ 0 → 0 < (bring n fs p i r).flow.arrived → owes ((bring n fs p i r).nodes 0) ≡ 0
+    bring_home [] p i r hi g own none h = absurd (omega arith)
+    bring_home (f ∷ fs) p i r hi g own none h =
         let k : ℕ = landing n p i in
         let x : Node = r.nodes k in
         let o : Option Port = passed_by (other p) f.octets x in
         let t : Traffic = uncork p i r.flow in
         let q : Ring = with_flow (taken n r.links k x o f t) r in
-        let came = arrives r.links k x o f t none (omega (arith, tell-arrived k (hears (other p) f.octets) q)) in
-        home_at k (other p) f.octets q (g k (landing-below n p i hi)) came.0 (own.0 came.1)
+        let came = arrives r.links k x o f t none (omega (arith, tell_arrived k (hears (other p) f.octets) q)) in
+        home_at k (other p) f.octets q (g k (landing_below n p i hi)) came.0 (own.0 came.1)
 
-    lose-arrived : (fs : List Frame) (p : Port) (i : ℕ) (r : Ring) → (let_go fs p i r).flow.arrived ≡ r.flow.arrived
-    lose-arrived [] p i r = refl
-    lose-arrived (f ∷ fs) p i r = refl
+    lose_arrived : (fs : List Frame) (p : Port) (i : ℕ) (r : Ring) → (let_go fs p i r).flow.arrived ≡ r.flow.arrived
+    lose_arrived [] p i r = refl
+    lose_arrived (f ∷ fs) p i r = refl
 
-    act-home : (x : Call) (r : Ring) → place x < n → ((k : ℕ) → k < n → Right s k (r.nodes k)) → Kept (Own s) r.flow → r.flow.arrived ≡ 0 → 0 < (act n x r).flow.arrived → owes ((act n x r).nodes 0) ≡ 0
-    act-home (link_up i) r hi g own none h = absurd (omega (arith, ends-arrived i true (with_link i true r)))
-    act-home (link_down i) r hi g own none h = absurd (omega (arith, ends-arrived i false (with_link i false (with_flow (purge One i (purge Two i r.flow)) r))))
-    act-home (carry i d) r hi g own none h = bring-home (r.flow.queues (leaves_by d) i) (leaves_by d) i r hi g (own (leaves_by d) i) none h
-    act-home (lose i d) r hi g own none h = absurd (omega (arith, lose-arrived (r.flow.queues (leaves_by d) i) (leaves_by d) i r))
-    act-home (expire k t) r hi g own none h = absurd (omega (arith, tell-arrived k (expires t) r))
+    act_home : (x : Call) (r : Ring) → place x < n → ((k : ℕ) → k < n → Right s k (r.nodes k)) → Kept (Own s) r.flow → r.flow.arrived ≡ 0 → 0 < (act n x r).flow.arrived → owes ((act n x r).nodes 0) ≡ 0
+    act_home (link_up i) r hi g own none h = absurd (omega (arith, ends_arrived i true (with_link i true r)))
+    act_home (link_down i) r hi g own none h = absurd (omega (arith, ends_arrived i false (with_link i false (with_flow (purge One i (purge Two i r.flow)) r))))
+    act_home (carry i d) r hi g own none h = bring_home (r.flow.queues (leaves_by d) i) (leaves_by d) i r hi g (own (leaves_by d) i) none h
+    act_home (lose i d) r hi g own none h = absurd (omega (arith, lose_arrived (r.flow.queues (leaves_by d) i) (leaves_by d) i r))
+    act_home (expire k t) r hi g own none h = absurd (omega (arith, tell_arrived k (expires t) r))
 
     module _ (c : Counts (settings_at s 0)) where
       -- the manager's second link leaves nothing owed
-      act-second : (x : Call) (r : Ring) → 2 ≤ n → Sound n s c r → first (sentences n x r) ≡ 0 → second_up n x (act n x r) ≡ true → owes ((act n x r).nodes 0) ≡ 0
-      act-second (link_up zero) r h2 f ok e =
+      act_second : (x : Call) (r : Ring) → 2 ≤ n → Sound n s c r → first (sentences n x r) ≡ 0 → second_up n x (act n x r) ≡ true → owes ((act n x r).nodes 0) ≡ 0
+      act_second (link_up zero) r h2 f ok e =
           let next-is : next n 0 ≡ 1 = grind (arith, nat_tests) in
           let down : r.links 0 ≡ false = grind (arith, nat_tests) in
-          rw next-is (node_second s r.expired (r.nodes 0) (r.switches 0) (linksOf n r.links 0) Two (f 0 (omega arith)) down)
-      act-second (link_up (suc i)) r h2 f ok e =
+          rw next-is (node_second s r.expired (r.nodes 0) (r.switches 0) (links_of n r.links 0) Two (f 0 (omega arith)) down)
+      act_second (link_up (suc i)) r h2 f ok e =
           let last : suc i ≡ n - 1 = grind (arith, nat_tests) in
           let next-is : next n (suc i) ≡ 0 = grind (arith, nat_tests) in
           let down : r.links (n - 1) ≡ false = grind (arith, nat_tests) in
-          rw (next-is, eqb-suc-zero i) (node_second s r.expired (r.nodes 0) (r.switches 0) (linksOf n r.links 0) One (f 0 (omega arith)) down)
-      act-second (link_down i) r h2 f ok e = absurd (both_ways false refl e)
-      act-second (carry i d) r h2 f ok e = absurd (both_ways false refl e)
-      act-second (lose i d) r h2 f ok e = absurd (both_ways false refl e)
-      act-second (expire k t) r h2 f ok e = absurd (both_ways false refl e)
+          rw (next-is, eqb-suc-zero i) (node_second s r.expired (r.nodes 0) (r.switches 0) (links_of n r.links 0) One (f 0 (omega arith)) down)
+      act_second (link_down i) r h2 f ok e = absurd (both_ways false refl e)
+      act_second (carry i d) r h2 f ok e = absurd (both_ways false refl e)
+      act_second (lose i d) r h2 f ok e = absurd (both_ways false refl e)
+      act_second (expire k t) r h2 f ok e = absurd (both_ways false refl e)
 
-      second-granted : (x : Call) (r : Ring) → second_up n x r ≡ true → r.refusal ≡ 0
-      second-granted (link_up i) r e = grind (arith, nat_tests)
-      second-granted (link_down i) r e = absurd (both_ways false refl e)
-      second-granted (carry i d) r e = absurd (both_ways false refl e)
-      second-granted (lose i d) r e = absurd (both_ways false refl e)
-      second-granted (expire k t) r e = absurd (both_ways false refl e)
+      second_granted : (x : Call) (r : Ring) → second_up n x r ≡ true → r.refusal ≡ 0
+      second_granted (link_up i) r e = grind (arith, nat_tests)
+      second_granted (link_down i) r e = absurd (both_ways false refl e)
+      second_granted (carry i d) r e = absurd (both_ways false refl e)
+      second_granted (lose i d) r e = absurd (both_ways false refl e)
+      second_granted (expire k t) r e = absurd (both_ways false refl e)
 
-      same-sentences : (x : Call) (r : Ring) (k : ℕ) → first (sentences n x (begun n k r)) ≡ first (sentences n x r)
-      same-sentences (link_up i) r k = refl
-      same-sentences (link_down i) r k = refl
-      same-sentences (carry i d) r k = refl
-      same-sentences (lose i d) r k = refl
-      same-sentences (expire i t) r k = refl
+      same_sentences : (x : Call) (r : Ring) (k : ℕ) → first (sentences n x (begun n k r)) ≡ first (sentences n x r)
+      same_sentences (link_up i) r k = refl
+      same_sentences (link_down i) r k = refl
+      same_sentences (carry i d) r k = refl
+      same_sentences (lose i d) r k = refl
+      same_sentences (expire i t) r k = refl
 
-      step-late : (x : Call) (r : Ring) (m : ℕ) → 2 ≤ n → Sound n s c r → Kept (Own s) r.flow → owes (r.nodes 0) ≤ m → owes ((step n x r).nodes 0) ≤ count_run_out n x (step n x r) m
-      step-late x r m h2 f own old = go (first (sentences n x r)) refl
+      step_late : (x : Call) (r : Ring) (m : ℕ) → 2 ≤ n → Sound n s c r → Kept (Own s) r.flow → owes (r.nodes 0) ≤ m → owes ((step n x r).nodes 0) ≤ count_run_out n x (step n x r) m
+      step_late x r m h2 f own old = go (first (sentences n x r)) refl
         where
           go : (k : ℕ) → first (sentences n x r) ≡ k → owes ((proceed n k x (begun n k r)).nodes 0) ≤ count_run_out n x (proceed n k x (begun n k r)) m
           go zero e =
               let q : Ring = begun n zero r in
               count_le (act n x q).flow.arrived (second_up n x (act n x q)) (test_ran_out x (act n x q)) (owes (r.nodes 0)) (owes ((act n x q).nodes 0)) m
-              (act-home x q (granted-place n x r e) (λ k hk. (f k hk).0) own refl) (act-second x q h2 f (same-sentences x r zero ∙ e)) (act-owes x q refl) old
+              (act_home x q (granted_place n x r e) (λ k hk. (f k hk).0) own refl) (act_second x q h2 f (same_sentences x r zero ∙ e)) (act_owes x q refl) old
           go (suc k) e =
               count_le 0 (second_up n x (begun n (suc k) r)) (test_ran_out x (begun n (suc k) r)) (owes (r.nodes 0)) (owes (r.nodes 0)) m
-              (λ h. absurd (omega arith)) (λ h. absurd (omega (arith, second-granted x (begun n (suc k) r) h))) (omega arith) old
+              (λ h. absurd (omega arith)) (λ h. absurd (omega (arith, second_granted x (begun n (suc k) r) h))) (omega arith) old
 
-      step-home : (x : Call) (r : Ring) → Sound n s c r → Kept (Own s) r.flow → 0 < (step n x r).flow.arrived → owes ((step n x r).nodes 0) ≡ 0
-      step-home x r f own h = go (first (sentences n x r)) refl h
+      step_home : (x : Call) (r : Ring) → Sound n s c r → Kept (Own s) r.flow → 0 < (step n x r).flow.arrived → owes ((step n x r).nodes 0) ≡ 0
+      step_home x r f own h = go (first (sentences n x r)) refl h
         where
           go : (k : ℕ) → first (sentences n x r) ≡ k → 0 < (proceed n k x (begun n k r)).flow.arrived → owes ((proceed n k x (begun n k r)).nodes 0) ≡ 0
-          go zero e h = act-home x (begun n zero r) (granted-place n x r e) (λ k hk. (f k hk).0) own refl h
+          go zero e h = act_home x (begun n zero r) (granted_place n x r e) (λ k hk. (f k hk).0) own refl h
           go (suc k) e h = absurd (omega arith)
 
 late : (n : ℕ) (s : Setup) (w : ℕ → Meaning) → Limits s n → (h : List Call) → owes ((after n s w h).nodes 0) ≤ run_outs n s w h
 late n s w lim [] = omega arith
-late n s w lim (x ∷ h) = let c = counts_of s n lim in step-late n s c x (after n s w h) (run_outs n s w h) lim.least (sound n s c w h lim.least) (all_own n s w lim h) (late n s w lim h)
+late n s w lim (x ∷ h) = let c = counts_of s n lim in step_late n s c x (after n s w h) (run_outs n s w h) lim.least (sound n s c w h lim.least) (all_own n s w lim h) (late n s w lim h)
 
 open_owes : (s : Setup) (x : Node) → Right s 0 x → open_in x ≡ true → owes x ≡ s.test_count
-open_owes s (manager m) g e = manager-open m.state e ∙ ap (λ (u : Setup). u.test_count) g.its
+open_owes s (manager m) g e = manager_open m.state e ∙ ap (λ (u : Setup). u.test_count) g.its
   where
-    manager-open : (t : State) → is_open t ≡ true → owed m t ≡ m.setup.test_count
-    manager-open t e = grind arith
+    manager_open : (t : State) → is_open t ≡ true → owed m t ≡ m.setup.test_count
+    manager_open t e = grind arith
 open_owes s (client m) g e = absurd g
 
 pub open_is_late : OpenIsLate
@@ -241,4 +241,4 @@ home_leaves_none n s w lim x h some =
     let c = counts_of s n lim in
     let r : Ring = after n s w (x ∷ h) in
     let f = sound n s c w (x ∷ h) lim.least in
-    never (loop n r) (λ e. omega (arith, c.tests.0, step-home n s c x (after n s w h) (sound n s c w h lim.least) (all_own n s w lim h) some, open_owes s (r.nodes 0) (f 0 (omega (arith, lim.least))).0 (loop-open n s c r lim.least f e)))
+    never (loop n r) (λ e. omega (arith, c.tests.0, step_home n s c x (after n s w h) (sound n s c w h lim.least) (all_own n s w lim h) some, open_owes s (r.nodes 0) (f 0 (omega (arith, lim.least))).0 (loop_open n s c r lim.least f e)))

@@ -110,24 +110,24 @@ module _ (P : Frame → Type 0) where
   abbrev pub Kept : Traffic → Type 0
   Kept t = (p : Port) (i : ℕ) → Every P (t.queues p i)
 
-  requeue-kept : (p : Port) (i : ℕ) (fs : List Frame) (t : Traffic) → Every P fs → Kept t → (q : Port) (j : ℕ) → Every P (requeue p i fs t.queues q j)
-  requeue-kept One i fs t new old One j = either (Every P) (eqb i j) fs (t.queues One j) (λ _. new) (old One j)
-  requeue-kept One i fs t new old Two j = old Two j
-  requeue-kept Two i fs t new old One j = old One j
-  requeue-kept Two i fs t new old Two j = either (Every P) (eqb i j) fs (t.queues Two j) (λ _. new) (old Two j)
+  requeue_kept : (p : Port) (i : ℕ) (fs : List Frame) (t : Traffic) → Every P fs → Kept t → (q : Port) (j : ℕ) → Every P (requeue p i fs t.queues q j)
+  requeue_kept One i fs t new old One j = either (Every P) (eqb i j) fs (t.queues One j) (λ _. new) (old One j)
+  requeue_kept One i fs t new old Two j = old Two j
+  requeue_kept Two i fs t new old One j = old One j
+  requeue_kept Two i fs t new old Two j = either (Every P) (eqb i j) fs (t.queues Two j) (λ _. new) (old Two j)
 
   join_kept : (p : Port) (i : ℕ) (f : Frame) (t : Traffic) → P f → Kept t → Kept (join p i f t)
-  join_kept p i f t new old = requeue-kept p i (t.queues p i ++ (f ∷ [])) t (every_push P (t.queues p i) f (old p i) new) old
+  join_kept p i f t new old = requeue_kept p i (t.queues p i ++ (f ∷ [])) t (every_push P (t.queues p i) f (old p i) new) old
 
 own_steady : (n : ℕ) (s : Setup) → Limits s n → Steady n s (Own s) (Kept (Own s)) (λ f t. Own s f × Kept (Own s) t)
 own_steady n s lim = record {
   makes = λ stamp k e x w h b g. makes_own s lim.settings stamp k e x w b g;
   sends = λ l p i f t h new old. either (Kept (Own s)) (l i && ltb (held n any t.queues) 128) (join p i f (born f t)) (drop f (born f t)) (λ _. join_kept (Own s) p i f (born f t) new old) old;
-  takes = λ p i f fs t h is old. let these : Every (Own s) (f ∷ fs) = subst (Every (Own s)) is (old p i) in (these.0, requeue-kept (Own s) p i (rest (t.queues p i)) t (every_rest (Own s) (t.queues p i) (old p i)) old);
+  takes = λ p i f fs t h is old. let these : Every (Own s) (f ∷ fs) = subst (Every (Own s)) is (old p i) in (these.0, requeue_kept (Own s) p i (rest (t.queues p i)) t (every_rest (Own s) (t.queues p i) (old p i)) old);
   joins = λ p i f t h q. join_kept (Own s) p i f t q.0 q.1;
   drops = λ f t q. q.1;
   homes = λ f t q. q.1;
-  purges = λ p i t h old. requeue-kept (Own s) p i [] t tt old;
+  purges = λ p i t h old. requeue_kept (Own s) p i [] t tt old;
 }
 
 pub all_own : (n : ℕ) (s : Setup) (w : ℕ → Meaning) → Limits s n → (h : List Call) → Kept (Own s) (after n s w h).flow

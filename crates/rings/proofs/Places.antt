@@ -30,21 +30,21 @@ either P true x y hx hy = hx refl
 either P false x y hx hy = hy
 
 module _ (n : ℕ) where
-  pub next-below : (i : ℕ) → i < n → next n i < n
-  next-below i h = grind (arith, nat_tests)
+  pub next_below : (i : ℕ) → i < n → next n i < n
+  next_below i h = grind (arith, nat_tests)
 
   pub back_below : (k : ℕ) → k < n → back n k < n
   back_below zero h = omega arith
   back_below (suc k) h = omega arith
 
-  pub next-back : (k : ℕ) → 2 ≤ n → k < n → next n (back n k) ≡ k
-  next-back zero h2 h = grind (arith, nat_tests)
-  next-back (suc k) h2 h = grind (arith, nat_tests)
+  pub next_back : (k : ℕ) → 2 ≤ n → k < n → next n (back n k) ≡ k
+  next_back zero h2 h = grind (arith, nat_tests)
+  next_back (suc k) h2 h = grind (arith, nat_tests)
 
-  pub at-below : (k : ℕ) (p : Port) → k < n → link_at n k p < n
-  at-below k One h = back_below k h
-  at-below k Two h = h
+  pub at_below : (k : ℕ) (p : Port) → k < n → link_at n k p < n
+  at_below k One h = back_below k h
+  at_below k Two h = h
 
-  pub landing-below : (p : Port) (i : ℕ) → i < n → landing n p i < n
-  landing-below One i h = h
-  landing-below Two i h = next-below i h
+  pub landing_below : (p : Port) (i : ℕ) → i < n → landing n p i < n
+  landing_below One i h = h
+  landing_below Two i h = next_below i h

@@ -13,9 +13,9 @@ use Rattle.rings.specs.Places.{next, link_at, landing}
 use Rattle.rings.specs.Traffic.{Frame, Traffic, Out, join, drop, home, send, emit, uncork, purge}
 use Rattle.rings.specs.Rings.{Ring, settings_at, with_flow, with_link, outs, acted, tell, ends, taken, bring, let_go}
 use Rattle.rings.specs.Calls.{Call, link_up, link_down, carry, lose, expire, first, sentences, leaves_by, act, begun, proceed, step, after}
-use Rattle.rings.proofs.Places.{either, change_all, next-below, at-below, landing-below}
+use Rattle.rings.proofs.Places.{either, change_all, next_below, at_below, landing_below}
 use Rattle.rings.proofs.Nodes.{Right, right_kept}
-use Rattle.rings.proofs.Sound.{place, granted-place, sound}
+use Rattle.rings.proofs.Sound.{place, granted_place, sound}
 
 abbrev pub Every : {A : Type 0} → (A → Type 0) → List A → Type 0
 Every P [] = Unit {0}
@@ -36,32 +36,32 @@ module _ (n : ℕ) (s : Setup) (c : Counts (settings_at s 0)) where
   abbrev pub RightRing : Ring → Type 0
   RightRing r = (r.expired < 4294967296) × ((k : ℕ) → k < n → Right s k (r.nodes k))
 
-  tell-right : (k : ℕ) (e : Event) (r : Ring) → k < n → RightRing r → RightRing (tell n k e r)
-  tell-right k e r h g =
+  tell_right : (k : ℕ) (e : Event) (r : Ring) → k < n → RightRing r → RightRing (tell n k e r)
+  tell_right k e r h g =
       let x : Node = (acted k e r).machine in
       (g.0, λ j hj. change_all (λ i (a b d : Node). Right s i a) k j x x x r.nodes r.nodes r.nodes (right_kept s c r.expired k e (r.nodes k) (r.switches k) (g.1 k h)) (g.1 j hj))
 
   module _ (P : Frame → Type 0) (Q : Traffic → Type 0) (H : Frame → Traffic → Type 0) (S : Steady n s P Q H) where
     emits : (l : ℕ → Bool) (k : ℕ) (os : List Out) (t : Traffic) → k < n → Every (λ o. P o.frame) os → Q t → Q (emit n l k os t)
     emits l k [] t h all q = q
-    emits l k (o ∷ os) t h all q = emits l k os (send n l o.port (link_at n k o.port) o.frame t) h all.1 (S.sends l o.port (link_at n k o.port) o.frame t (at-below n k o.port h) all.0 q)
+    emits l k (o ∷ os) t h all q = emits l k os (send n l o.port (link_at n k o.port) o.frame t) h all.1 (S.sends l o.port (link_at n k o.port) o.frame t (at_below n k o.port h) all.0 q)
 
     takens : (l : ℕ → Bool) (k : ℕ) (x : Node) (o : Option Port) (f : Frame) (t : Traffic) → k < n → H f t → Q (taken n l k x o f t)
     takens l k (manager m) o f t h q = S.homes f t q
-    takens l k (client m) (Some p) f t h q = either Q (l (link_at n k p)) (join p (link_at n k p) f t) (drop f t) (λ _. S.joins p (link_at n k p) f t (at-below n k p h) q) (S.drops f t q)
+    takens l k (client m) (Some p) f t h q = either Q (l (link_at n k p)) (join p (link_at n k p) f t) (drop f t) (λ _. S.joins p (link_at n k p) f t (at_below n k p h) q) (S.drops f t q)
     takens l k (client m) None f t h q = S.drops f t q
 
     tells : (k : ℕ) (e : Event) (r : Ring) → k < n → RightRing r → Q r.flow → Q (tell n k e r).flow
     tells k e r h g q = emits r.links k (outs (setup_of (r.nodes k)) (acted k e r).sent) r.flow h (S.makes r.expired k e (r.nodes k) (r.switches k) h g.0 (g.1 k h)) q
 
     both_ends : (i : ℕ) (b : Bool) (r : Ring) → i < n → RightRing r → Q r.flow → Q (ends n i b r).flow
-    both_ends i b r h g q = tells (next n i) (turns One b) (tell n i (turns Two b) r) (next-below n i h) (tell-right i (turns Two b) r h g) (tells i (turns Two b) r h g q)
+    both_ends i b r h g q = tells (next n i) (turns One b) (tell n i (turns Two b) r) (next_below n i h) (tell_right i (turns Two b) r h g) (tells i (turns Two b) r h g q)
 
     brought : (fs : List Frame) (p : Port) (i : ℕ) (r : Ring) → i < n → RightRing r → r.flow.queues p i ≡ fs → Q r.flow → Q (bring n fs p i r).flow
     brought [] p i r h g is q = q
     brought (f ∷ fs) p i r h g is q =
         let k : ℕ = landing n p i in
-        let hk : k < n = landing-below n p i h in
+        let hk : k < n = landing_below n p i h in
         let x : Node = r.nodes k in
         let o : Option Port = passed_by (other p) f.octets x in
         let t : Traffic = uncork p i r.flow in
@@ -80,35 +80,35 @@ module _ (n : ℕ) (s : Setup) (c : Counts (settings_at s 0)) where
 
     -- a call, from its opened counts on
     pub steady : (x : Call) (r : Ring) → RightRing r → ((k : ℕ) → Q (begun n k r).flow) → (k : ℕ) → first (sentences n x r) ≡ k → Q (proceed n k x (begun n k r)).flow
-    steady x r g q zero e = called x (begun n zero r) (granted-place n x r e) g (q zero)
+    steady x r g q zero e = called x (begun n zero r) (granted_place n x r e) g (q zero)
     steady x r g q (suc k) e = q (suc k)
 
   -- after every history the ring is right
-  bring-expired : (fs : List Frame) (p : Port) (i : ℕ) (r : Ring) → (bring n fs p i r).expired ≡ r.expired
-  bring-expired [] p i r = refl
-  bring-expired (f ∷ fs) p i r = refl
+  bring_expired : (fs : List Frame) (p : Port) (i : ℕ) (r : Ring) → (bring n fs p i r).expired ≡ r.expired
+  bring_expired [] p i r = refl
+  bring_expired (f ∷ fs) p i r = refl
 
-  lose-expired : (fs : List Frame) (p : Port) (i : ℕ) (r : Ring) → (let_go fs p i r).expired ≡ r.expired
-  lose-expired [] p i r = refl
-  lose-expired (f ∷ fs) p i r = refl
+  lose_expired : (fs : List Frame) (p : Port) (i : ℕ) (r : Ring) → (let_go fs p i r).expired ≡ r.expired
+  lose_expired [] p i r = refl
+  lose_expired (f ∷ fs) p i r = refl
 
-  act-below : (x : Call) (r : Ring) → r.expired < 4294967296 → (act n x r).expired < 4294967296
-  act-below (link_up i) r h = h
-  act-below (link_down i) r h = h
-  act-below (carry i d) r h = rw (bring-expired (r.flow.queues (leaves_by d) i) (leaves_by d) i r) h
-  act-below (lose i d) r h = rw (lose-expired (r.flow.queues (leaves_by d) i) (leaves_by d) i r) h
-  act-below (expire k t) r h = omega arith
+  act_below : (x : Call) (r : Ring) → r.expired < 4294967296 → (act n x r).expired < 4294967296
+  act_below (link_up i) r h = h
+  act_below (link_down i) r h = h
+  act_below (carry i d) r h = rw (bring_expired (r.flow.queues (leaves_by d) i) (leaves_by d) i r) h
+  act_below (lose i d) r h = rw (lose_expired (r.flow.queues (leaves_by d) i) (leaves_by d) i r) h
+  act_below (expire k t) r h = omega arith
 
-  step-below : (x : Call) (r : Ring) → r.expired < 4294967296 → (step n x r).expired < 4294967296
-  step-below x r h = go (first (sentences n x r))
+  step_below : (x : Call) (r : Ring) → r.expired < 4294967296 → (step n x r).expired < 4294967296
+  step_below x r h = go (first (sentences n x r))
     where
       go : (k : ℕ) → (proceed n k x (begun n k r)).expired < 4294967296
-      go zero = act-below x (begun n zero r) h
+      go zero = act_below x (begun n zero r) h
       go (suc k) = h
 
   below : (w : ℕ → Meaning) (h : List Call) → (after n s w h).expired < 4294967296
   below w [] = omega arith
-  below w (x ∷ h) = step-below x (after n s w h) (below w h)
+  below w (x ∷ h) = step_below x (after n s w h) (below w h)
 
   pub right : (w : ℕ → Meaning) (h : List Call) → 2 ≤ n → RightRing (after n s w h)
   right w h h2 = (below w h, λ k hk. (sound n s c w h h2 k hk).0)

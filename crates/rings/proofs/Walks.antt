@@ -55,96 +55,96 @@ module _ (n k : ℕ) (k< : k < n) where
   pub turn_below : (t : ℕ) → t ≤ n → turn n k t < n
   turn_below t h = grind (arith, nat_tests)
 
-  turn-apart : (x y : ℕ) → x < n → y < n → eqb (turn n k x) (turn n k y) ≡ eqb x y
-  turn-apart x y hx hy = grind (arith, nat_tests)
+  turn_apart : (x y : ℕ) → x < n → y < n → eqb (turn n k x) (turn n k y) ≡ eqb x y
+  turn_apart x y hx hy = grind (arith, nat_tests)
 
-  left-times : (g : ℕ → Bool) (m x : ℕ) → m ≤ n → x < n → times (turn n k x) (leftward n g k m) ≡ cond (ltb x m && span (λ a. g (turn n k a)) x m) 1 0
-  left-times g zero x hm hx = grind (arith, nat_tests)
-  left-times g (suc m) x hm hx =
-      let before : times (turn n k x) (leftward n g k m) ≡ cond (ltb x m && span (λ a. g (turn n k a)) x m) 1 0 = left-times g m x (omega arith) hx in
-      let here : eqb (turn n k x) (turn n k m) ≡ eqb x m = turn-apart x m hx hm in
+  left_times : (g : ℕ → Bool) (m x : ℕ) → m ≤ n → x < n → times (turn n k x) (leftward n g k m) ≡ cond (ltb x m && span (λ a. g (turn n k a)) x m) 1 0
+  left_times g zero x hm hx = grind (arith, nat_tests)
+  left_times g (suc m) x hm hx =
+      let before : times (turn n k x) (leftward n g k m) ≡ cond (ltb x m && span (λ a. g (turn n k a)) x m) 1 0 = left_times g m x (omega arith) hx in
+      let here : eqb (turn n k x) (turn n k m) ≡ eqb x m = turn_apart x m hx hm in
       let none : m ≤ x → span (λ a. g (turn n k a)) x m ≡ true = span_none (λ a. g (turn n k a)) x m in
       one_more (g (turn n k m)) (turn n k x) (turn n k m) (leftward n g k m) x m (span (λ a. g (turn n k a)) x m) here before none
 
-  right-times : (g : ℕ → Bool) (m t x : ℕ) → t + m ≤ n → 0 < x → x ≤ n → times (turn n k x) (rightward n g k m t) ≡ cond (ltb t x && (leb x (t + m) && span (λ a. g (turn n k a)) t x)) 1 0
-  right-times g zero t x hm h0 hx = grind (arith, nat_tests)
-  right-times g (suc m) t x hm h0 hx =
+  right_times : (g : ℕ → Bool) (m t x : ℕ) → t + m ≤ n → 0 < x → x ≤ n → times (turn n k x) (rightward n g k m t) ≡ cond (ltb t x && (leb x (t + m) && span (λ a. g (turn n k a)) t x)) 1 0
+  right_times g zero t x hm h0 hx = grind (arith, nat_tests)
+  right_times g (suc m) t x hm h0 hx =
       let p : ℕ → Bool = λ a. g (turn n k a) in
       let here : eqb (turn n k x) (turn n k (suc t)) ≡ eqb x (suc t) = grind (arith, nat_tests) in
       one_right (g (turn n k t)) (turn n k x) (turn n k (suc t)) (rightward n g k m (suc t)) x t m (span p (suc t) x) (span p t x)
-      here (right-times g m (suc t) x (omega arith) h0 hx) (span_front p t x) (span_none p (suc t) x)
+      here (right_times g m (suc t) x (omega arith) h0 hx) (span_front p t x) (span_none p (suc t) x)
 
   -- a node other than k is met to the right if the links before it pass, and to the left if those after it do
   abbrev listed : (ℕ → Bool) → List ℕ
   listed g = rightward n g k n 0 ++ leftward n g k n
 
-  other-times : (g : ℕ → Bool) (x : ℕ) → 0 < x → x < n → times (turn n k x) (listed g) ≡ cond (span (λ a. g (turn n k a)) 0 x) 1 0 + cond (span (λ a. g (turn n k a)) x n) 1 0
-  other-times g x h0 hx =
+  other_times : (g : ℕ → Bool) (x : ℕ) → 0 < x → x < n → times (turn n k x) (listed g) ≡ cond (span (λ a. g (turn n k a)) 0 x) 1 0 + cond (span (λ a. g (turn n k a)) x n) 1 0
+  other_times g x h0 hx =
       let a : times (turn n k x) (listed g) ≡ times (turn n k x) (rightward n g k n 0) + times (turn n k x) (leftward n g k n) = times-++ (turn n k x) (rightward n g k n 0) (leftward n g k n) in
-      let b : times (turn n k x) (rightward n g k n 0) ≡ cond (ltb 0 x && (leb x (0 + n) && span (λ a. g (turn n k a)) 0 x)) 1 0 = right-times g n 0 x (omega arith) h0 (omega arith) in
-      let c : times (turn n k x) (leftward n g k n) ≡ cond (ltb x n && span (λ a. g (turn n k a)) x n) 1 0 = left-times g n x (omega arith) hx in
+      let b : times (turn n k x) (rightward n g k n 0) ≡ cond (ltb 0 x && (leb x (0 + n) && span (λ a. g (turn n k a)) 0 x)) 1 0 = right_times g n 0 x (omega arith) h0 (omega arith) in
+      let c : times (turn n k x) (leftward n g k n) ≡ cond (ltb x n && span (λ a. g (turn n k a)) x n) 1 0 = left_times g n x (omega arith) hx in
       joined (times (turn n k x) (listed g)) (times (turn n k x) (rightward n g k n 0)) (times (turn n k x) (leftward n g k n)) (span (λ a. g (turn n k a)) 0 x) (span (λ a. g (turn n k a)) x n) a b c
     where
       joined : (z u v : ℕ) (d e : Bool) → z ≡ u + v → u ≡ cond (ltb 0 x && (leb x (0 + n) && d)) 1 0 → v ≡ cond (ltb x n && e) 1 0 → z ≡ cond d 1 0 + cond e 1 0
       joined z u v d e a b c = grind (arith, nat_tests)
 
-  self-times : (g : ℕ → Bool) → times k (listed g) ≡ cond (span (λ a. g (turn n k a)) 0 n) 1 0 + cond (span (λ a. g (turn n k a)) 0 n) 1 0
-  self-times g =
+  self_times : (g : ℕ → Bool) → times k (listed g) ≡ cond (span (λ a. g (turn n k a)) 0 n) 1 0 + cond (span (λ a. g (turn n k a)) 0 n) 1 0
+  self_times g =
       let here : turn n k 0 ≡ k = grind (arith, nat_tests) in
       let round : turn n k n ≡ k = grind (arith, nat_tests) in
       let a : times k (listed g) ≡ times k (rightward n g k n 0) + times k (leftward n g k n) = times-++ k (rightward n g k n 0) (leftward n g k n) in
-      let b : times k (rightward n g k n 0) ≡ cond (ltb 0 n && (leb n (0 + n) && span (λ a. g (turn n k a)) 0 n)) 1 0 = rw round at (right-times g n 0 n (omega arith) (omega arith) (omega arith)) in
-      let c : times k (leftward n g k n) ≡ cond (ltb 0 n && span (λ a. g (turn n k a)) 0 n) 1 0 = rw here at (left-times g n 0 (omega arith) (omega arith)) in
+      let b : times k (rightward n g k n 0) ≡ cond (ltb 0 n && (leb n (0 + n) && span (λ a. g (turn n k a)) 0 n)) 1 0 = rw round at (right_times g n 0 n (omega arith) (omega arith) (omega arith)) in
+      let c : times k (leftward n g k n) ≡ cond (ltb 0 n && span (λ a. g (turn n k a)) 0 n) 1 0 = rw here at (left_times g n 0 (omega arith) (omega arith)) in
       joined (times k (listed g)) (times k (rightward n g k n 0)) (times k (leftward n g k n)) (span (λ a. g (turn n k a)) 0 n) a b c
     where
       joined : (z u v : ℕ) (d : Bool) → z ≡ u + v → u ≡ cond (ltb 0 n && (leb n (0 + n) && d)) 1 0 → v ≡ cond (ltb 0 n && d) 1 0 → z ≡ cond d 1 0 + cond d 1 0
       joined z u v d a b c = grind (arith, nat_tests)
 
   -- no other number is listed
-  right-none : (g : ℕ → Bool) (m t j : ℕ) → t + m ≤ n → n ≤ j → times j (rightward n g k m t) ≡ 0
-  right-none g zero t j h hj = refl
-  right-none g (suc m) t j h hj = grind (arith, nat_tests, turn_below (suc t), right-none g m (suc t) j)
+  right_none : (g : ℕ → Bool) (m t j : ℕ) → t + m ≤ n → n ≤ j → times j (rightward n g k m t) ≡ 0
+  right_none g zero t j h hj = refl
+  right_none g (suc m) t j h hj = grind (arith, nat_tests, turn_below (suc t), right_none g m (suc t) j)
 
-  left-none : (g : ℕ → Bool) (m j : ℕ) → m ≤ n → n ≤ j → times j (leftward n g k m) ≡ 0
-  left-none g zero j h hj = refl
-  left-none g (suc m) j h hj = grind (arith, nat_tests, turn_below m, left-none g m j)
+  left_none : (g : ℕ → Bool) (m j : ℕ) → m ≤ n → n ≤ j → times j (leftward n g k m) ≡ 0
+  left_none g zero j h hj = refl
+  left_none g (suc m) j h hj = grind (arith, nat_tests, turn_below m, left_none g m j)
 
   -- how far to the right of k node j lies
   abbrev away : ℕ → ℕ
   away j = cond (leb k j) (j - k) ((j + n) - k)
 
-  away-below : (j : ℕ) → j < n → away j < n
-  away-below j h = grind (arith, nat_tests)
+  away_below : (j : ℕ) → j < n → away j < n
+  away_below j h = grind (arith, nat_tests)
 
-  turn-away : (j : ℕ) → j < n → turn n k (away j) ≡ j
-  turn-away j h = grind (arith, nat_tests)
+  turn_away : (j : ℕ) → j < n → turn n k (away j) ≡ j
+  turn_away j h = grind (arith, nat_tests)
 
-  span-all-links : (g : ℕ → Bool) → span (λ a. g (turn n k a)) 0 n ≡ true → all_to n g ≡ true
-  span-all-links g e = all_all n g (λ i h. subst (λ j. g j ≡ true) (turn-away i h) (span_at (λ a. g (turn n k a)) 0 n (away i) e (omega arith) (away-below i h)))
+  span_all_links : (g : ℕ → Bool) → span (λ a. g (turn n k a)) 0 n ≡ true → all_to n g ≡ true
+  span_all_links g e = all_all n g (λ i h. subst (λ j. g j ≡ true) (turn_away i h) (span_at (λ a. g (turn n k a)) 0 n (away i) e (omega arith) (away_below i h)))
 
-  all-links-span : (g : ℕ → Bool) → all_to n g ≡ true → span (λ a. g (turn n k a)) 0 n ≡ true
-  all-links-span g e = span_all (λ a. g (turn n k a)) 0 n (λ i _ h. all_at n g (turn n k i) (turn_below i (omega arith)) e)
+  all_links_span : (g : ℕ → Bool) → all_to n g ≡ true → span (λ a. g (turn n k a)) 0 n ≡ true
+  all_links_span g e = span_all (λ a. g (turn n k a)) 0 n (λ i _ h. all_at n g (turn n k i) (turn_below i (omega arith)) e)
 
-  pub loop-twice : (g : ℕ → Bool) → 2 ≤ n → all_to n g ≡ true → times (turn n k 1) (listed g) ≡ 2
-  loop-twice g h2 e =
-      let whole : span (λ a. g (turn n k a)) 0 n ≡ true = all-links-span g e in
+  pub loop_twice : (g : ℕ → Bool) → 2 ≤ n → all_to n g ≡ true → times (turn n k 1) (listed g) ≡ 2
+  loop_twice g h2 e =
+      let whole : span (λ a. g (turn n k a)) 0 n ≡ true = all_links_span g e in
       let cut : span (λ a. g (turn n k a)) 0 n ≡ (span (λ a. g (turn n k a)) 0 1 && span (λ a. g (turn n k a)) 1 n) = span_cut (λ a. g (turn n k a)) 1 n (omega arith) in
-      two_of (times (turn n k 1) (listed g)) (span (λ a. g (turn n k a)) 0 n) (span (λ a. g (turn n k a)) 0 1) (span (λ a. g (turn n k a)) 1 n) (other-times g 1 (omega arith) h2) whole cut
+      two_of (times (turn n k 1) (listed g)) (span (λ a. g (turn n k a)) 0 n) (span (λ a. g (turn n k a)) 0 1) (span (λ a. g (turn n k a)) 1 n) (other_times g 1 (omega arith) h2) whole cut
     where
       two_of : (z : ℕ) (w d e : Bool) → z ≡ cond d 1 0 + cond e 1 0 → w ≡ true → w ≡ (d && e) → z ≡ 2
       two_of z w d e a b c = grind arith
 
-  pub twice-loop : (g : ℕ → Bool) (j : ℕ) → 2 ≤ times j (listed g) → all_to n g ≡ true
-  twice-loop g j h = elim (cases_lt j n) [ inl less ↦ inside less | inr more ↦ outside more ]
+  pub twice_loop : (g : ℕ → Bool) (j : ℕ) → 2 ≤ times j (listed g) → all_to n g ≡ true
+  twice_loop g j h = elim (cases_lt j n) [ inl less ↦ inside less | inr more ↦ outside more ]
     where
       outside : n ≤ j → all_to n g ≡ true
-      outside more = absurd (omega (arith, times-++ j (rightward n g k n 0) (leftward n g k n), right-none g n 0 j (omega arith) more, left-none g n j (omega arith) more))
+      outside more = absurd (omega (arith, times-++ j (rightward n g k n 0) (leftward n g k n), right_none g n 0 j (omega arith) more, left_none g n j (omega arith) more))
 
-      both-spans : (z : ℕ) (d e : Bool) → z ≡ cond d 1 0 + cond e 1 0 → 2 ≤ z → (d && e) ≡ true
-      both-spans z d e a b = grind arith
+      both_spans : (z : ℕ) (d e : Bool) → z ≡ cond d 1 0 + cond e 1 0 → 2 ≤ z → (d && e) ≡ true
+      both_spans z d e a b = grind arith
 
       self : j ≡ k → span (λ a. g (turn n k a)) 0 n ≡ true
-      self is = one_of (times j (listed g)) (span (λ a. g (turn n k a)) 0 n) (subst (λ i. times i (listed g) ≡ cond (span (λ a. g (turn n k a)) 0 n) 1 0 + cond (span (λ a. g (turn n k a)) 0 n) 1 0) (sym is) (self-times g)) h
+      self is = one_of (times j (listed g)) (span (λ a. g (turn n k a)) 0 n) (subst (λ i. times i (listed g) ≡ cond (span (λ a. g (turn n k a)) 0 n) 1 0 + cond (span (λ a. g (turn n k a)) 0 n) 1 0) (sym is) (self_times g)) h
         where
           one_of : (z : ℕ) (d : Bool) → z ≡ cond d 1 0 + cond d 1 0 → 2 ≤ z → d ≡ true
           one_of z d a b = grind arith
@@ -153,19 +153,19 @@ module _ (n k : ℕ) (k< : k < n) where
       elsewhere less ne =
           let x : ℕ = away j in
           let some : 0 < x = grind (arith, nat_tests) in
-          let t : times j (listed g) ≡ cond (span (λ a. g (turn n k a)) 0 x) 1 0 + cond (span (λ a. g (turn n k a)) x n) 1 0 = subst (λ i. times i (listed g) ≡ cond (span (λ a. g (turn n k a)) 0 x) 1 0 + cond (span (λ a. g (turn n k a)) x n) 1 0) (turn-away j less) (other-times g x some (away-below j less)) in
-          span_cut (λ a. g (turn n k a)) x n (le_of_lt (away-below j less)) ∙ both-spans (times j (listed g)) (span (λ a. g (turn n k a)) 0 x) (span (λ a. g (turn n k a)) x n) t h
+          let t : times j (listed g) ≡ cond (span (λ a. g (turn n k a)) 0 x) 1 0 + cond (span (λ a. g (turn n k a)) x n) 1 0 = subst (λ i. times i (listed g) ≡ cond (span (λ a. g (turn n k a)) 0 x) 1 0 + cond (span (λ a. g (turn n k a)) x n) 1 0) (turn_away j less) (other_times g x some (away_below j less)) in
+          span_cut (λ a. g (turn n k a)) x n (le_of_lt (away_below j less)) ∙ both_spans (times j (listed g)) (span (λ a. g (turn n k a)) 0 x) (span (λ a. g (turn n k a)) x n) t h
 
       inside : j < n → all_to n g ≡ true
-      inside less = span-all-links g (elim (cases_eq j k) [ inl is ↦ self is | inr ne ↦ elsewhere less ne ])
+      inside less = span_all_links g (elim (cases_eq j k) [ inl is ↦ self is | inr ne ↦ elsewhere less ne ])
 
   -- all links but one pass: each other node is met once
-  pub gap-once : (g : ℕ → Bool) (b j : ℕ) → b < n → g b ≡ false → ((i : ℕ) → i < n → (i ≡ b → ⊥) → g i ≡ true) → j < n → (j ≡ k → ⊥) → times j (listed g) ≡ 1
-  gap-once g b j hb shut pass hj ne =
+  pub gap_once : (g : ℕ → Bool) (b j : ℕ) → b < n → g b ≡ false → ((i : ℕ) → i < n → (i ≡ b → ⊥) → g i ≡ true) → j < n → (j ≡ k → ⊥) → times j (listed g) ≡ 1
+  gap_once g b j hb shut pass hj ne =
       let x : ℕ = away j in
       let some : 0 < x = grind (arith, nat_tests) in
-      let t : times j (listed g) ≡ cond (span p 0 x) 1 0 + cond (span p x n) 1 0 = subst (λ i. times i (listed g) ≡ cond (span p 0 x) 1 0 + cond (span p x n) 1 0) (turn-away j hj) (other-times g x some (away-below j hj)) in
-      one_side (times j (listed g)) (span p 0 x) (span p x n) t (elim (cases_lt (away b) x) [ inl before ↦ inr (not_span 0 x (omega arith) before, span_all p x n (λ i lo hi. passes_at i hi (omega arith))) | inr behind ↦ inl (span_all p 0 x (λ i lo hi. passes_at i (omega (arith, away-below j hj)) (omega arith)), not_span x n behind (away-below b hb)) ])
+      let t : times j (listed g) ≡ cond (span p 0 x) 1 0 + cond (span p x n) 1 0 = subst (λ i. times i (listed g) ≡ cond (span p 0 x) 1 0 + cond (span p x n) 1 0) (turn_away j hj) (other_times g x some (away_below j hj)) in
+      one_side (times j (listed g)) (span p 0 x) (span p x n) t (elim (cases_lt (away b) x) [ inl before ↦ inr (not_span 0 x (omega arith) before, span_all p x n (λ i lo hi. passes_at i hi (omega arith))) | inr behind ↦ inl (span_all p 0 x (λ i lo hi. passes_at i (omega (arith, away_below j hj)) (omega arith)), not_span x n behind (away_below b hb)) ])
     where
       p : ℕ → Bool
       p a = g (turn n k a)
@@ -174,7 +174,7 @@ module _ (n k : ℕ) (k< : k < n) where
       one_side z d e a b = grind arith
 
       not_span : (lo hi : ℕ) → lo ≤ away b → away b < hi → span p lo hi ≡ false
-      not_span lo hi h₁ h₂ = never (span p lo hi) (λ e. both_ways (g b) shut (subst (λ i. g i ≡ true) (turn-away b hb) (span_at p lo hi (away b) e h₁ h₂)))
+      not_span lo hi h₁ h₂ = never (span p lo hi) (λ e. both_ways (g b) shut (subst (λ i. g i ≡ true) (turn_away b hb) (span_at p lo hi (away b) e h₁ h₂)))
 
       passes_at : (i : ℕ) → i < n → (i ≡ away b → ⊥) → p i ≡ true
       passes_at i h ne = pass (turn n k i) (turn_below i (omega arith)) (λ e. grind (arith, nat_tests))

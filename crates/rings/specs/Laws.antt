@@ -26,17 +26,17 @@ ring_open r = open_in (r.nodes 0)
 
 module _ (n : ℕ) (s : Setup) (w : ℕ → Meaning) where
   -- test frames sent, arrived and lost, added up from all answers of a history
-  abbrev pub allSent : List Call → ℕ
-  allSent [] = 0
-  allSent (c ∷ h) = (after n s w (c ∷ h)).flow.sent + allSent h
+  abbrev pub all_sent : List Call → ℕ
+  all_sent [] = 0
+  all_sent (c ∷ h) = (after n s w (c ∷ h)).flow.sent + all_sent h
 
-  abbrev pub allArrived : List Call → ℕ
-  allArrived [] = 0
-  allArrived (c ∷ h) = (after n s w (c ∷ h)).flow.arrived + allArrived h
+  abbrev pub all_arrived : List Call → ℕ
+  all_arrived [] = 0
+  all_arrived (c ∷ h) = (after n s w (c ∷ h)).flow.arrived + all_arrived h
 
-  abbrev pub allLost : List Call → ℕ
-  allLost [] = 0
-  allLost (c ∷ h) = (after n s w (c ∷ h)).flow.lost + allLost h
+  abbrev pub all_lost : List Call → ℕ
+  all_lost [] = 0
+  all_lost (c ∷ h) = (after n s w (c ∷ h)).flow.lost + all_lost h
 
   -- test frames that wait on a link
   abbrev pub waiting : List Call → ℕ
@@ -68,7 +68,7 @@ run_outs n s w (c ∷ h) = count_run_out n c (after n s w (c ∷ h)) (run_outs n
 
 -- a: test frames sent are those that arrived, were lost or wait on a link
 abbrev pub TestsAddUp : Type 0
-TestsAddUp = (n : ℕ) (s : Setup) (w : ℕ → Meaning) → Limits s n → (h : List Call) → allSent n s w h ≡ allArrived n s w h + allLost n s w h + waiting n s w h
+TestsAddUp = (n : ℕ) (s : Setup) (w : ℕ → Meaning) → Limits s n → (h : List Call) → all_sent n s w h ≡ all_arrived n s w h + all_lost n s w h + waiting n s w h
 
 -- no more than 128 frames wait
 abbrev pub AtMost128 : Type 0

@@ -1,5 +1,5 @@
 // The lists in which places stand: the free ones, and those of the frames that wait.
-ghost use Rattle.std.specs.Prelude.{◌≡◌, ℕ, ◌+◌, ◌%◌, length, get_or, sum_by};
+ghost use Rattle.std.specs.Prelude.{◌≡◌, ℕ, ◌+◌, ◌%◌, length, sum_by};
 ghost use Rattle.store.specs.Chains.{Once, Ends, total};
 ghost use Rattle.store.specs.Counting.{one};
 

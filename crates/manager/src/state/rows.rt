@@ -2,7 +2,7 @@
 ghost use Rattle.std.specs.Prelude.{nat_lt};
 ghost use Rattle.switch.specs.Ports.{same_port};
 ghost use Rattle.outbox.specs.Rows.{Acted};
-ghost use Rattle.manager.specs.Rows.{up, down, testOut, home, told, topologyOut, hears, fires};
+ghost use Rattle.manager.specs.Rows.{up, down, test_out, home, told, topology_out, hears, fires};
 ghost use Rattle.manager.specs.Models.{model};
 
 use crate::state::{Manager, State};
@@ -78,7 +78,7 @@ impl Manager {
 
     // The test timer has run out, and is stopped.
     fn test_out<S: Switch>(&mut self, switch: &mut S, stamp: u32, out: &mut Outbox)
-        ensures { Acted (testOut stamp self.old.state) (model self.old).setup (model self.old) (model self.new) (S.Switch.meaning switch.old) (S.Switch.meaning switch.new) out.old out.new }
+        ensures { Acted (test_out stamp self.old.state) (model self.old).setup (model self.old) (model self.new) (S.Switch.meaning switch.old) (S.Switch.meaning switch.new) out.old out.new }
     {
         match self.state {
             State::AcStat1 => {}
@@ -135,7 +135,7 @@ impl Manager {
 
     // M10: the topology timer has run out, and is stopped.
     fn topology_out<S: Switch>(&mut self, switch: &mut S, out: &mut Outbox)
-        ensures { Acted (topologyOut 0 (nat_lt 0 self.old.repeats)) (model self.old).setup (model self.old) (model self.new) (S.Switch.meaning switch.old) (S.Switch.meaning switch.new) out.old out.new }
+        ensures { Acted (topology_out 0 (nat_lt 0 self.old.repeats)) (model self.old).setup (model self.old) (model self.new) (S.Switch.meaning switch.old) (S.Switch.meaning switch.new) out.old out.new }
     {
         if self.repeats > 0 {
             self.tell(out, self.repeats);
