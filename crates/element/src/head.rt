@@ -3,7 +3,8 @@ ghost use Rattle.std.specs.Prelude.{◌≡◌, ◌≤◌, length};
 ghost use Rattle.layout.specs.Reading.{is_sized, head_of};
 ghost use Rattle.element.specs.Shown.{Passes, head_shown};
 
-use crate::part::{Part, cut, word16};
+use crate::part::Part;
+use crate::walk::Elements;
 
 #[derive(Clone, Copy)]
 pub struct Head<'a> {
@@ -16,7 +17,7 @@ pub struct Head<'a> {
 }
 
 impl<'a> Head<'a> {
-    // The head, where there are 50 to 60 octets.
+    // The head, where there are 50 to 60 octets. An Option, since the chain of checks, which names the refusals, is the reader's.
     pub fn of(octets: &'a [u8]) -> Option<Head<'a>>
         ensures { Passes result (is_sized octets.now) (λ h. head_shown h ≡ head_of octets.now) }
     {
@@ -31,11 +32,12 @@ fn head_of<'a>(octets: &'a [u8]) -> Head<'a>
     requires { 16 ≤ length octets.now }
     ensures { head_shown result ≡ head_of octets.now }
 {
+    let front = Elements { octets, at: 0 };
     Head {
-        destination: cut(octets, 0, 6),
-        source: cut(octets, 6, 6),
-        ether_type: word16(octets, 12),
+        destination: front.part(0, 6),
+        source: front.part(6, 6),
+        ether_type: front.word16(12),
         version_at: 14,
-        version: word16(octets, 14),
+        version: front.word16(14),
     }
 }

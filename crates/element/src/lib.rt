@@ -7,4 +7,4 @@ mod walk;
 
 pub use head::Head;
 pub use part::Part;
-pub use walk::{Element, Elements, LinkContent};
+pub use walk::{CommonContent, Element, Elements, LinkContent, TestContent, TopologyChangeContent};

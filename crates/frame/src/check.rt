@@ -1,4 +1,5 @@
-// The kind of a frame, or its refusal, without the fields: what the reader finds, for callers that only sort frames.
+// The kind of a frame, or its refusal, without the fields: what the reader finds, for callers that only sort frames. It is
+// about twice as fast as the reader, beside which it stands for that.
 ghost use Rattle.std.specs.Prelude.{◌≡◌, ◌+◌, ◌≤◌, ◌&&◌, length, take, drop, is_some, Some, nat_le};
 ghost use Rattle.std.specs.Str.{bytes_eq};
 ghost use Rattle.kind.specs.Kinds.{type_of, destination_of, address_of, goes_to};
@@ -8,6 +9,7 @@ ghost use Rattle.layout.specs.Reading.{reading, read_first, head_of};
 ghost use Rattle.element.specs.Shown.{Passes};
 ghost use Rattle.frame.specs.Checked.{checked, kind_reading, first_at, KindAt};
 
+use crate::field::is_priority;
 use crate::zero_from;
 use kind::{Destination, Kind};
 use refusal::Refusal;
@@ -53,8 +55,8 @@ fn destination_of(octets: &[u8]) -> Option<Destination>
     }
 }
 
-// Goes on from the version, which is known to be 1.
-#[tactic(auto, using(std::proofs::lemmas::Bool::Decides::nat_tests))]
+// Goes on from the version, which is known to be 1. Here and below, fifty octets at least are what the length was checked for.
+#[tactic(auto, using(std::proofs::lemmas::Bool::Decides::nat_tests, crate::proofs::First::kind_at))]
 fn check_elements(octets: &[u8], destination: Destination) -> Result<Kind, Refusal>
     requires long { 50 ≤ length octets.now }
     requires to { Some destination ≡ destination_of (take 6 (drop 0 octets.now)) }
@@ -94,26 +96,19 @@ fn goes_to(octets: &[u8], destination: Destination, kind: Kind) -> bool
 }
 
 // The kind of frame that begins with the element after the version: its type tells the kind, which tells its length.
+#[tactic(auto, using(crate::proofs::First::kind_by_length, crate::proofs::First::other_type))]
 fn first_kind(octets: &[u8]) -> Option<Kind>
     requires { 50 ≤ length octets.now }
-    ensures { Passes result (is_some (kind_of (element_at octets.now 16))) (λ k. KindAt k octets.now) }
+    ensures { result ≡ kind_of (element_at octets.now 16) }
 {
-    let kind = typed(octets[16])?;
-    if octets[17] as usize + 26 == kind.span() {
-        Some(kind)
-    } else {
-        None
-    }
+    typed(octets[16]).filter(|kind| octets[17] as usize + 26 == kind.span())
 }
 
 // The kind whose first element has this type.
 fn typed(element: u8) -> Option<Kind>
     ensures { Passes result (nat_le 2 element && nat_le element 5) (λ k. type_of k ≡ element) }
 {
-    let 2..=5 = element else {
-        return None;
-    };
-    Some(KINDS[element as usize - 2])
+    KINDS.get((element as usize).checked_sub(2)?).copied()
 }
 
 // Whether the fields of a first element of this kind have their values.
@@ -122,18 +117,11 @@ fn fields_fit(octets: &[u8], kind: Kind) -> bool
     ensures { result ≡ in_values (first_at kind octets.now) }
 {
     match kind {
-        Kind::Test => is_priority(octets) && is_bit(octets, 26) && is_bit(octets, 28),
-        Kind::TopologyChange => is_priority(octets),
+        Kind::Test => is_priority(word_at(octets, 18)) && is_bit(octets, 26) && is_bit(octets, 28),
+        Kind::TopologyChange => is_priority(word_at(octets, 18)),
         Kind::LinkDown => is_bit(octets, 24) && is_bit(octets, 28),
         Kind::LinkUp => is_bit(octets, 24) && is_bit(octets, 28),
     }
-}
-
-fn is_priority(octets: &[u8]) -> bool
-    requires { 20 ≤ length octets.now }
-    ensures { result ≡ is_priority (word octets.now 18) }
-{
-    word_at(octets, 18) % 0x1000 == 0
 }
 
 fn is_bit(octets: &[u8], at: usize) -> bool
@@ -143,6 +131,7 @@ fn is_bit(octets: &[u8], at: usize) -> bool
     word_at(octets, at) <= 1
 }
 
+#[tactic(auto, unfolding(layout::specs::Elements::stands))]
 fn stands_at(octets: &[u8], at: usize, element: u8, n: u8) -> bool
     requires { at + 2 + n ≤ length octets.now }
     ensures { result ≡ stands octets.now at element n }
@@ -150,6 +139,7 @@ fn stands_at(octets: &[u8], at: usize, element: u8, n: u8) -> bool
     octets[at] == element && octets[at + 1] == n
 }
 
+// The walk's word16 does the same; one function for both would be public, and no public function may require anything.
 fn word_at(octets: &[u8], at: usize) -> u16
     requires { at + 2 ≤ length octets.now }
     ensures { result ≡ word octets.now at }

@@ -1,180 +1,155 @@
 // The content of a frame: its first element, with each field known to have one of its values.
-ghost use Rattle.std.specs.Prelude.{◌≡◌, ◌≤◌, ◌&&◌, nat_le};
-ghost use Rattle.layout.specs.Elements.{in_values, is_priority};
-ghost use Rattle.element.specs.Shown.{Passes, part_of, element_shown};
-ghost use Rattle.frame.specs.Shown.{role_number, state_number, blocked_number, content_shown, content_sender, content_kind, SameLink};
+ghost use Rattle.std.specs.Prelude.{◌≡◌, ℕ, ◌≤◌, ◌&&◌, nat_le};
+ghost use Rattle.layout.specs.Fields as fields;
+ghost use Rattle.layout.specs.Elements.{in_values};
+ghost use Rattle.element.specs.Shown.{element_shown};
+ghost use Rattle.element.specs.declared.walk.Element.TheVariants as elements;
+ghost use Rattle.frame.specs.declared.content.Content.TheVariants.{Test, TopologyChange};
+ghost use Rattle.frame.specs.Fields.{Fits};
+ghost use Rattle.frame.specs.Shown.{shown_with, content_shown, content_sender, content_kind, SameLink};
 
-use element::{Element, LinkContent, Part};
+use crate::field::{PortRole, RingState, checked_priority, is_priority, one_of_two};
+use element::{Element, LinkContent, Part, TestContent, TopologyChangeContent};
 use kind::Kind;
+use refusal::Refusal;
 
-#[derive(Clone, Copy, Debug)]
-pub enum PortRole {
-    Primary,
-    Secondary,
+// The manager's Test.
+#[derive(Clone, Copy)]
+pub struct Test<A> {
+    pub sender: A,
+    pub priority: u16,
+    pub role: PortRole,
+    pub state: RingState,
+    pub transitions: u16,
+    pub stamp: u32,
 }
 
-impl PortRole {
-    pub fn of(number: u16) -> Option<PortRole>
-        ensures { Passes result (nat_le number 1) (λ role. role_number role ≡ number) }
-    {
-        match number {
-            0 => Some(PortRole::Primary),
-            1 => Some(PortRole::Secondary),
-            _ => None,
-        }
-    }
-
-    pub fn number(self) -> u16
-        ensures { result ≡ role_number self }
-    {
-        match self {
-            PortRole::Primary => 0,
-            PortRole::Secondary => 1,
-        }
-    }
-}
-
-#[derive(Clone, Copy, Debug)]
-pub enum RingState {
-    Open,
-    Closed,
-}
-
-impl RingState {
-    pub fn of(number: u16) -> Option<RingState>
-        ensures { Passes result (nat_le number 1) (λ state. state_number state ≡ number) }
-    {
-        match number {
-            0 => Some(RingState::Open),
-            1 => Some(RingState::Closed),
-            _ => None,
-        }
-    }
-
-    pub fn number(self) -> u16
-        ensures { result ≡ state_number self }
-    {
-        match self {
-            RingState::Open => 0,
-            RingState::Closed => 1,
-        }
-    }
+// The manager's announcement of a change.
+#[derive(Clone, Copy)]
+pub struct TopologyChange<A> {
+    pub sender: A,
+    pub priority: u16,
+    pub interval: u16,
 }
 
 // What a client says of one of its links; `blocked` where it can block.
 #[derive(Clone, Copy)]
-pub struct Link<'a> {
-    pub sender: Part<'a>,
+pub struct Link<A> {
+    pub sender: A,
     pub role: PortRole,
     pub interval: u16,
     pub blocked: bool,
 }
 
-impl<'a> Link<'a> {
-    fn of(link: LinkContent<'a>) -> Option<Link<'a>>
-        ensures { Passes result (nat_le link.entry.role 1 && nat_le link.entry.blocked 1) (λ l. SameLink l link.entry) }
-    {
-        let role = PortRole::of(link.role)?;
-        let blocked = match link.blocked {
-            0 => false,
-            1 => true,
-            _ => return None,
-        };
-        Some(Link {
-            sender: link.sender,
-            role,
-            interval: link.interval,
-            blocked,
-        })
-    }
-}
-
 #[derive(Clone, Copy)]
-pub enum Content<'a> {
-    Test {
-        priority: u16,
-        sender: Part<'a>,
-        role: PortRole,
-        state: RingState,
-        transitions: u16,
-        stamp: u32,
-    },
-    TopologyChange {
-        priority: u16,
-        sender: Part<'a>,
-        interval: u16,
-    },
-    LinkDown(Link<'a>),
-    LinkUp(Link<'a>),
+pub enum Content<A> {
+    Test(Test<A>),
+    TopologyChange(TopologyChange<A>),
+    LinkDown(Link<A>),
+    LinkUp(Link<A>),
 }
 
-impl<'a> Content<'a> {
-    // The content of a first element, where each field has one of its values.
-    pub fn of(element: Element<'a>) -> Option<Content<'a>>
-        ensures { Passes result (in_values (element_shown element.entry)) (λ c. content_shown c ≡ element_shown element.entry) }
-    {
-        match element {
-            Element::Test {
-                priority,
-                sender,
-                role,
-                state,
-                transitions,
-                stamp,
-            } => Some(Content::Test {
-                priority: checked_priority(priority)?,
-                sender,
-                role: PortRole::of(role)?,
-                state: RingState::of(state)?,
-                transitions,
-                stamp,
-            }),
-            Element::TopologyChange {
-                priority,
-                sender,
-                interval,
-            } => Some(Content::TopologyChange {
-                priority: checked_priority(priority)?,
-                sender,
-                interval,
-            }),
-            Element::LinkDown(link) => Some(Content::LinkDown(Link::of(link)?)),
-            Element::LinkUp(link) => Some(Content::LinkUp(Link::of(link)?)),
-            Element::Common { .. } => None,
-            Element::End => None,
-        }
-    }
-
-    // The node that the frame is from.
-    pub fn sender(&self) -> Part<'a>
-        ensures { part_of result ≡ content_sender self.now }
-    {
-        match self {
-            Content::Test { sender, .. } => *sender,
-            Content::TopologyChange { sender, .. } => *sender,
-            Content::LinkDown(link) => link.sender,
-            Content::LinkUp(link) => link.sender,
-        }
-    }
-
+impl<A> Content<A> {
     pub fn kind(&self) -> Kind
         ensures { result ≡ content_kind self.now }
     {
         match self {
-            Content::Test { .. } => Kind::Test,
-            Content::TopologyChange { .. } => Kind::TopologyChange,
+            Content::Test(_) => Kind::Test,
+            Content::TopologyChange(_) => Kind::TopologyChange,
             Content::LinkDown(_) => Kind::LinkDown,
             Content::LinkUp(_) => Kind::LinkUp,
         }
     }
+
+    // Whether each field has one of its values: all but the priority do by their types.
+    pub fn in_values(&self) -> bool
+        ensures { (place : ℕ → A → fields.Part) → result ≡ in_values (shown_with place self.now) }
+    {
+        match self {
+            Content::Test(test) => is_priority(test.priority),
+            Content::TopologyChange(change) => is_priority(change.priority),
+            Content::LinkDown(_) => true,
+            Content::LinkUp(_) => true,
+        }
+    }
 }
 
-fn checked_priority(number: u16) -> Option<u16>
-    ensures { Passes result (is_priority number) (λ priority. priority ≡ number) }
-{
-    if number % 0x1000 == 0 {
-        Some(number)
-    } else {
-        None
+impl<A: Copy> Content<A> {
+    // The node that the frame is from.
+    pub fn sender(&self) -> A
+        ensures { result ≡ content_sender self.now }
+    {
+        match self {
+            Content::Test(test) => test.sender,
+            Content::TopologyChange(change) => change.sender,
+            Content::LinkDown(link) => link.sender,
+            Content::LinkUp(link) => link.sender,
+        }
+    }
+}
+
+impl<'a> TryFrom<TestContent<'a>> for Test<Part<'a>> {
+    type Error = Refusal;
+
+    ghost try_from_gives = { λ test result. Fits result (in_values (element_shown (elements.Test test))) (λ t. content_shown (Test t) ≡ element_shown (elements.Test test)) };
+
+    fn try_from(test: TestContent<'a>) -> Result<Test<Part<'a>>, Refusal> {
+        Ok(Test {
+            sender: test.sender,
+            priority: checked_priority(test.priority)?,
+            role: PortRole::try_from(test.role)?,
+            state: RingState::try_from(test.state)?,
+            transitions: test.transitions,
+            stamp: test.stamp,
+        })
+    }
+}
+
+impl<'a> TryFrom<TopologyChangeContent<'a>> for TopologyChange<Part<'a>> {
+    type Error = Refusal;
+
+    ghost try_from_gives = { λ change result. Fits result (in_values (element_shown (elements.TopologyChange change))) (λ t. content_shown (TopologyChange t) ≡ element_shown (elements.TopologyChange change)) };
+
+    fn try_from(change: TopologyChangeContent<'a>) -> Result<TopologyChange<Part<'a>>, Refusal> {
+        Ok(TopologyChange {
+            sender: change.sender,
+            priority: checked_priority(change.priority)?,
+            interval: change.interval,
+        })
+    }
+}
+
+impl<'a> TryFrom<LinkContent<'a>> for Link<Part<'a>> {
+    type Error = Refusal;
+
+    ghost try_from_gives = { λ link result. Fits result (nat_le link.role 1 && nat_le link.blocked 1) (λ l. SameLink l link) };
+
+    fn try_from(link: LinkContent<'a>) -> Result<Link<Part<'a>>, Refusal> {
+        Ok(Link {
+            sender: link.sender,
+            role: PortRole::try_from(link.role)?,
+            interval: link.interval,
+            blocked: one_of_two(link.blocked, false, true)?,
+        })
+    }
+}
+
+// The content of a first element, where each field has one of its values.
+impl<'a> TryFrom<Element<'a>> for Content<Part<'a>> {
+    type Error = Refusal;
+
+    ghost try_from_gives = { λ element result. Fits result (in_values (element_shown element)) (λ c. content_shown c ≡ element_shown element) };
+
+    fn try_from(element: Element<'a>) -> Result<Content<Part<'a>>, Refusal> {
+        match element {
+            Element::Test(test) => Ok(Content::Test(Test::try_from(test)?)),
+            Element::TopologyChange(change) => Ok(Content::TopologyChange(TopologyChange::try_from(
+                change,
+            )?)),
+            Element::LinkDown(link) => Ok(Content::LinkDown(Link::try_from(link)?)),
+            Element::LinkUp(link) => Ok(Content::LinkUp(Link::try_from(link)?)),
+            Element::Common(_) => Err(Refusal::FieldValue),
+            Element::End => Err(Refusal::FieldValue),
+        }
     }
 }

@@ -3,29 +3,35 @@
 
 mod check;
 mod content;
+mod field;
 
 ghost use Rattle.std.specs.Prelude.{◌≡◌, ◌+◌, ◌≤◌, length, drop, is_some};
 ghost use Rattle.layout.specs.Elements.{element_at, kind_of};
 ghost use Rattle.layout.specs.Reading.{reading, read_first, all_zero};
 ghost use Rattle.layout.specs.Layout.{LaidOut};
 ghost use Rattle.element.specs.Shown.{Passes, head_shown, element_shown};
-ghost use Rattle.frame.specs.Shown.{outcome, FirstOf};
+ghost use Rattle.frame.specs.Shown.{outcome};
 
 pub use check::frame_kind;
-pub use content::{Content, Link, PortRole, RingState};
+pub use content::{Content, Link, Test, TopologyChange};
 use element::{Element, Elements, Head, Part};
+pub use field::{PortRole, RingState, one_of_two};
 use kind::{Destination, Kind};
 use refusal::Refusal;
 
+// A frame, whose addresses have the form A and whose domain has the form D: parts of octets, or octets of its own.
 #[derive(Clone, Copy)]
-pub struct Frame<'a> {
-    pub source: Part<'a>,
-    pub content: Content<'a>,
+pub struct Frame<A, D> {
+    pub source: A,
+    pub content: Content<A>,
     pub sequence: u16,
-    pub domain: Part<'a>,
+    pub domain: D,
 }
 
-pub fn read<'a>(octets: &'a [u8]) -> Result<Frame<'a>, Refusal>
+// A frame that was read: its addresses and its domain are parts of the octets.
+pub type Received<'a> = Frame<Part<'a>, Part<'a>>;
+
+pub fn read<'a>(octets: &'a [u8]) -> Result<Received<'a>, Refusal>
     ensures value { outcome result ≡ reading octets.now }
     ensures laid_out { LaidOut octets.now (outcome result) }
 {
@@ -45,7 +51,7 @@ pub fn read<'a>(octets: &'a [u8]) -> Result<Frame<'a>, Refusal>
 }
 
 // Reads on from the version, which is known to be 1.
-fn read_elements<'a>(octets: &'a [u8], head: Head<'a>) -> Result<Frame<'a>, Refusal>
+fn read_elements<'a>(octets: &'a [u8], head: Head<'a>) -> Result<Received<'a>, Refusal>
     requires { head.version_at ≤ 60 }
     ensures { outcome result ≡ read_first octets.now (head_shown head.entry) (element_at octets.now (head.entry.version_at + 2)) }
 {
@@ -64,10 +70,8 @@ fn read_elements<'a>(octets: &'a [u8], head: Head<'a>) -> Result<Frame<'a>, Refu
     let true = kind.destination().is(head.destination.octets) else {
         return Err(Refusal::WrongDestination);
     };
-    let Some(content) = Content::of(first) else {
-        return Err(Refusal::FieldValue);
-    };
-    let Some(Element::Common { sequence, domain }) = elements.next_element() else {
+    let content = Content::try_from(first)?;
+    let Some(Element::Common(common)) = elements.next_element() else {
         return Err(Refusal::NoCommon);
     };
     let Some(Element::End) = elements.next_element() else {
@@ -76,30 +80,30 @@ fn read_elements<'a>(octets: &'a [u8], head: Head<'a>) -> Result<Frame<'a>, Refu
     let true = zero_from(octets, total) else {
         return Err(Refusal::Padding);
     };
-    let source = head.source;
     Ok(Frame {
-        source,
+        source: head.source,
         content,
-        sequence,
-        domain,
+        sequence: common.sequence,
+        domain: common.domain,
     })
 }
 
 // The kind of frame that begins with the element.
 fn kind_of(element: &Element) -> Option<Kind>
-    ensures { Passes result (is_some (kind_of (element_shown element.now))) (λ k. FirstOf k (element_shown element.now)) }
+    ensures { result ≡ kind_of (element_shown element.now) }
 {
     match element {
-        Element::Test { .. } => Some(Kind::Test),
-        Element::TopologyChange { .. } => Some(Kind::TopologyChange),
+        Element::Test(_) => Some(Kind::Test),
+        Element::TopologyChange(_) => Some(Kind::TopologyChange),
         Element::LinkDown(_) => Some(Kind::LinkDown),
         Element::LinkUp(_) => Some(Kind::LinkUp),
-        Element::Common { .. } => None,
+        Element::Common(_) => None,
         Element::End => None,
     }
 }
 
-// Whether all octets from `end` on are zero.
+// Whether all octets from `end` on are zero. The tail is checked by a loop over its octets: a rule of the project.
+#[tactic(auto, using(crate::proofs::Tail::zero_stop, crate::proofs::Tail::zero_more, crate::proofs::Tail::zero_all, std::proofs::lemmas::List::take_rest))]
 pub(crate) fn zero_from(octets: &[u8], end: usize) -> bool
     requires { end ≤ length octets.now }
     ensures { result ≡ all_zero (drop end octets.now) }

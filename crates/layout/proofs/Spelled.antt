@@ -1,7 +1,8 @@
 -- Octets of a list that are known: how stretches join, and what the fields of an element spell.
-use Rattle.std.proofs.Common.{◌≡◌, ℕ, ◌+◌, ◌/◌, ◌%◌, ◌<◌, ◌≤◌, true, ◌&&◌, eqb, leb, List, [], ◌∷◌, ◌++◌, length, get_or, take, drop, replicate, sym, refl, ap, ◌∙◌, arith}
+use Rattle.std.proofs.Common.{◌≡◌, ℕ, ◌+◌, ◌/◌, ◌%◌, ◌<◌, ◌≤◌, true, ◌&&◌, eqb, leb, List, [], ◌∷◌, ◌++◌, length, get_or, take, drop, replicate, refl, ap, ◌∙◌, arith}
 use Rattle.std.specs.List.{AllByRecursion}
-use Rattle.std.proofs.lemmas.List.{take-append-drop, take-take, drop-drop, drop-take, drop_more}
+use Rattle.std.proofs.lemmas.List.{drop-drop, drop_more}
+use Rattle.std.proofs.Math.Seq.{take-add}
 use Rattle.std.proofs.ByRecursion.{All-get_or}
 use Rattle.std.proofs.lemmas.Bool.{eqb-true, leb-true, and_parts}
 use Rattle.layout.specs.Fields.{word16, word32, part}
@@ -13,15 +14,10 @@ use Rattle.layout.specs.Layout.{two, four}
 pub record Spells (xs : List ℕ) (i n : ℕ) (ys : List ℕ) : Type 0 where
   pub is : take n (drop i xs) ≡ ys
 
-take_two : (n m : ℕ) (xs : List ℕ) → take (n + m) xs ≡ take n xs ++ take m (drop n xs)
-take_two n m xs =
-    let le : n ≤ n + m = omega arith in
-    sym (take-append-drop n (take (n + m) xs)) ∙ ap (λ t. t ++ drop n (take (n + m) xs)) (take-take n (n + m) xs le) ∙ ap (λ t. take n xs ++ t) (drop-take n m xs)
-
 -- a stretch and the one after it are one
 pub join : {xs ys zs : List ℕ} {i n m : ℕ} → Spells xs i n ys → Spells xs (i + n) m zs → Spells xs i (n + m) (ys ++ zs)
 join {xs} {ys} {zs} {i} {n} {m} p q =
-    record { is = take_two n m (drop i xs) ∙ ap (λ t. t ++ take m (drop n (drop i xs))) p.is ∙ ap (λ t. ys ++ take m t) (drop-drop n i xs) ∙ ap (λ t. ys ++ t) q.is }
+    record { is = take-add n m (drop i xs) ∙ ap (λ t. t ++ take m (drop n (drop i xs))) p.is ∙ ap (λ t. ys ++ take m t) (drop-drop n i xs) ∙ ap (λ t. ys ++ t) q.is }
 
 -- all are octets
 abbrev pub Octets : List ℕ → Type 0

@@ -5,6 +5,7 @@ ghost use Rattle.std.specs.Prelude.{◌≡◌};
 ghost use Rattle.layout.specs.Worked.{change, WorkedCases};
 
 // The frame of the worked cases: node 0 of a ring announces a topology change in 30 ms.
+#[tactic(auto, unfolding(crate::specs::Elements::element_at, crate::specs::Elements::stands))]
 pub fn worked_frame() -> [u8; 50]
     ensures octets { result ≡ change 2 0 }
     ensures cases { WorkedCases }

@@ -6,7 +6,7 @@ ghost use Rattle.refusal.specs.Refusals.{number_of, sentence_of};
 
 use std::fmt;
 
-#[derive(Clone, Copy, Debug)]
+#[derive(Clone, Copy, PartialEq, Eq, Debug)]
 pub enum Refusal {
     FrameSize = 1,
     UnknownDestination = 2,
@@ -36,7 +36,7 @@ pub enum Refusal {
 }
 
 impl Refusal {
-    // The number by which manuals, logs and the firmware name the refusal.
+    // The number by which manuals, logs and the firmware name the refusal; `u8::from` would not say which number it is.
     pub fn number(self) -> u8
         ensures value { result ≡ number_of self }
         ensures bound { result ≤ 25 }
@@ -44,7 +44,7 @@ impl Refusal {
         self as u8
     }
 
-    // What a customer reads.
+    // What a customer reads; `Display` writes it.
     pub fn sentence(self) -> &'static str
         ensures { result.now ≡ sentence_of self }
     {
