@@ -1,14 +1,18 @@
 -- What the calls from C answer, as numbers.
-use Rattle.std.specs.Prelude.{◌≡◌, ℕ, ◌+◌, ◌^◌, Bool, cond, ◌&&◌, List, ◌++◌, length, drop, Some, None, Option, ◌==◌, nat_le}
+use Rattle.std.specs.Prelude.{◌≡◌, ℕ, ◌+◌, ◌^◌, Bool, cond, ◌&&◌, List, ◌++◌, length, drop, Some, None, Option, Ok, Err, Result, ◌==◌, nat_le}
+use Rattle.refusal.specs.declared.Refusal.{Refusal}
+use Rattle.refusal.specs.Refusals.{number_of}
 use Rattle.kind.specs.declared.Kind.{Kind}
 use Rattle.kind.specs.Kinds.{type_of}
+use Rattle.layout.specs.Fields.{Part}
 use Rattle.layout.specs.Elements.{Element, test, topology_change, link_down, link_up, common, end, none, kind_of, span_at, size_of, in_values}
 use Rattle.layout.specs.Reading.{Reading, refused, accepted}
 use Rattle.layout.specs.Layout.{encode}
 use Rattle.frame.specs.Checked.{Checked, unfit, fit, kind_reading}
-use Rattle.frame.specs.Shown.{role_number, blocked_number}
-use Rattle.writer.specs.declared.outgoing.LinkBody.{LinkBody}
-use Rattle.writer.specs.Sent.{placed}
+use Rattle.frame.specs.Fields.{role_number, blocked_number}
+use Rattle.frame.specs.declared.content.Content.{Content}
+use Rattle.frame.specs.declared.content.Link.{Link}
+use Rattle.writer.specs.Sent.{placed, body_shown}
 
 -- a kind is 256 and the type of the first element
 abbrev pub kind_number : Option Kind → ℕ
@@ -42,9 +46,12 @@ element_field end k = no_value
 element_field none k = no_value
 
 -- all fields: 0 sequence, 8 place of the source, 10 place of the domain, and those of the first element
+abbrev pub accepted_field : Part → Element → ℕ → Part → ℕ → ℕ
+accepted_field s e n d k = cond (k == 0) n (cond (k == 8) s.at (cond (k == 10) d.at (element_field e k)))
+
 abbrev pub field_number : Reading → ℕ → ℕ
 field_number (refused n) k = no_value + n
-field_number (accepted s e n d) k = cond (k == 0) n (cond (k == 8) s.at (cond (k == 10) d.at (element_field e k)))
+field_number (accepted s e n d) k = accepted_field s e n d k
 
 -- six octets, sixteen octets
 abbrev pub is_address : List ℕ → Bool
@@ -71,8 +78,18 @@ sending_body e source n domain out =
 abbrev pub sending : Element → List ℕ → List ℕ → ℕ → List ℕ → List ℕ → Sent
 sending e sender source n domain out = cond (is_address sender) (sending_body e source n domain out) (record { answer = 8; octets = out })
 
--- a link body with these fields
-pub record LinkIs (l : LinkBody) (sender : List ℕ) (role interval blocked : ℕ) : Type 0 where
+-- what was written, as it is answered to C
+abbrev pub sent : Result ℕ Refusal → List ℕ → Sent
+sent (Ok n) out = record { answer = n; octets = out }
+sent (Err e) out = record { answer = number_of e; octets = out }
+
+-- a frame of this content, or the refusal of the content
+abbrev pub sending_content : Result (Content (List ℕ)) Refusal → List ℕ → ℕ → List ℕ → List ℕ → Sent
+sending_content (Ok c) source n domain out = sending_body (body_shown c) source n domain out
+sending_content (Err e) source n domain out = record { answer = number_of e; octets = out }
+
+-- the content of a link with these fields
+pub record LinkIs (l : Link (List ℕ)) (sender : List ℕ) (role interval blocked : ℕ) : Type 0 where
   pub has_sender : l.sender ≡ sender
   pub has_role : role_number l.role ≡ role
   pub has_interval : l.interval ≡ interval

@@ -1,12 +1,13 @@
 // Writing from C: one call for each kind of frame.
-ghost use Rattle.std.specs.Prelude.{◌≡◌, ◌&&◌, nat_le};
+ghost use Rattle.std.specs.Prelude.{◌≡◌, ◌≤◌, ◌&&◌, ◌==◌, IfOk, length, nat_le};
 ghost use Rattle.layout.specs.Elements.{test, topology_change, link_down, link_up};
-ghost use Rattle.element.specs.Shown.{Passes};
+ghost use Rattle.frame.specs.Fields.{Fits};
 ghost use Rattle.writer.specs.Sent.{placed, body_shown};
-ghost use Rattle.firmware.specs.Answers.{is_address, is_domain, sending, sending_body, LinkIs};
+ghost use Rattle.firmware.specs.Answers.{is_address, sending, sending_content, sent, LinkIs};
 
-use frame::{PortRole, RingState};
-use writer::{Body, LinkBody, Outgoing, write};
+use frame::{Content, Frame, Link, PortRole, RingState, Test, TopologyChange, one_of_two};
+use refusal::Refusal;
+use writer::write;
 
 // Writes a Test frame.
 #[unsafe(no_mangle)]
@@ -25,40 +26,35 @@ pub extern "C" fn mrp_write_test(
     ensures answer { result ≡ (sending (test priority (placed 20 sender.now) port_role ring_state transitions time_stamp) sender.now source.now sequence domain.now out.old).answer }
     ensures octets { out.new ≡ (sending (test priority (placed 20 sender.now) port_role ring_state transitions time_stamp) sender.now source.now sequence domain.now out.old).octets }
 {
-    let Some(body) = test_body(
+    let content = test(
         priority,
         sender,
         port_role,
         ring_state,
         transitions,
         time_stamp,
-    ) else {
-        return 8;
-    };
-    send(source, body, sequence, domain, out)
+    );
+    send(source, content, sequence, domain, out)
 }
 
-fn test_body(
+fn test(
     priority: u16,
     sender: &[u8],
     role: u16,
     state: u16,
     transitions: u16,
     stamp: u32,
-) -> Option<Body>
-    ensures { Passes result (is_address sender.now && (nat_le role 1 && nat_le state 1)) (λ b. body_shown b ≡ test priority (placed 20 sender.now) role state transitions stamp) }
+) -> Result<Content<[u8; 6]>, Refusal>
+    ensures { Fits result (is_address sender.now && (nat_le role 1 && nat_le state 1)) (λ c. body_shown c ≡ test priority (placed 20 sender.now) role state transitions stamp) }
 {
-    let sender = address(sender)?;
-    let role = PortRole::of(role)?;
-    let state = RingState::of(state)?;
-    Some(Body::Test {
+    Ok(Content::Test(Test {
         priority,
-        sender,
-        role,
-        state,
+        sender: fixed(sender)?,
+        role: PortRole::try_from(role)?,
+        state: RingState::try_from(state)?,
         transitions,
         stamp,
-    })
+    }))
 }
 
 // Writes a TopologyChange frame.
@@ -75,15 +71,18 @@ pub extern "C" fn mrp_write_topology_change(
     ensures answer { result ≡ (sending (topology_change priority (placed 20 sender.now) interval) sender.now source.now sequence domain.now out.old).answer }
     ensures octets { out.new ≡ (sending (topology_change priority (placed 20 sender.now) interval) sender.now source.now sequence domain.now out.old).octets }
 {
-    let Some(sender) = address(sender) else {
-        return 8;
-    };
-    let change = Body::TopologyChange {
+    let content = topology_change(priority, sender, interval);
+    send(source, content, sequence, domain, out)
+}
+
+fn topology_change(priority: u16, sender: &[u8], interval: u16) -> Result<Content<[u8; 6]>, Refusal>
+    ensures { Fits result (is_address sender.now) (λ c. body_shown c ≡ topology_change priority (placed 20 sender.now) interval) }
+{
+    Ok(Content::TopologyChange(TopologyChange {
         priority,
-        sender,
+        sender: fixed(sender)?,
         interval,
-    };
-    send(source, change, sequence, domain, out)
+    }))
 }
 
 // Writes a LinkDown frame.
@@ -101,10 +100,21 @@ pub extern "C" fn mrp_write_link_down(
     ensures answer { result ≡ (sending (link_down (placed 18 sender.now) port_role interval blocked) sender.now source.now sequence domain.now out.old).answer }
     ensures octets { out.new ≡ (sending (link_down (placed 18 sender.now) port_role interval blocked) sender.now source.now sequence domain.now out.old).octets }
 {
-    let Some(link) = link_body(sender, port_role, interval, blocked) else {
-        return 8;
-    };
-    send(source, Body::LinkDown(link), sequence, domain, out)
+    let content = link_down(sender, port_role, interval, blocked);
+    send(source, content, sequence, domain, out)
+}
+
+// Beside `link_up`, which makes the other variant: with the variant as an argument of `map` the two calls were not proved.
+fn link_down(
+    sender: &[u8],
+    role: u16,
+    interval: u16,
+    blocked: u16,
+) -> Result<Content<[u8; 6]>, Refusal>
+    ensures { Fits result (is_address sender.now && (nat_le role 1 && nat_le blocked 1)) (λ c. body_shown c ≡ link_down (placed 18 sender.now) role interval blocked) }
+{
+    let link = link(sender, role, interval, blocked)?;
+    Ok(Content::LinkDown(link))
 }
 
 // Writes a LinkUp frame.
@@ -122,73 +132,73 @@ pub extern "C" fn mrp_write_link_up(
     ensures answer { result ≡ (sending (link_up (placed 18 sender.now) port_role interval blocked) sender.now source.now sequence domain.now out.old).answer }
     ensures octets { out.new ≡ (sending (link_up (placed 18 sender.now) port_role interval blocked) sender.now source.now sequence domain.now out.old).octets }
 {
-    let Some(link) = link_body(sender, port_role, interval, blocked) else {
-        return 8;
-    };
-    send(source, Body::LinkUp(link), sequence, domain, out)
+    let content = link_up(sender, port_role, interval, blocked);
+    send(source, content, sequence, domain, out)
 }
 
-fn link_body(sender: &[u8], role: u16, interval: u16, blocked: u16) -> Option<LinkBody>
-    ensures { Passes result (is_address sender.now && (nat_le role 1 && nat_le blocked 1)) (λ l. LinkIs l sender.now role interval blocked) }
+fn link_up(
+    sender: &[u8],
+    role: u16,
+    interval: u16,
+    blocked: u16,
+) -> Result<Content<[u8; 6]>, Refusal>
+    ensures { Fits result (is_address sender.now && (nat_le role 1 && nat_le blocked 1)) (λ c. body_shown c ≡ link_up (placed 18 sender.now) role interval blocked) }
 {
-    let sender = address(sender)?;
-    let role = PortRole::of(role)?;
-    let blocked = match blocked {
-        0 => false,
-        1 => true,
-        _ => return None,
-    };
-    Some(LinkBody {
-        sender,
-        role,
+    let link = link(sender, role, interval, blocked)?;
+    Ok(Content::LinkUp(link))
+}
+
+fn link(sender: &[u8], role: u16, interval: u16, blocked: u16) -> Result<Link<[u8; 6]>, Refusal>
+    ensures { Fits result (is_address sender.now && (nat_le role 1 && nat_le blocked 1)) (λ l. LinkIs l sender.now role interval blocked) }
+{
+    Ok(Link {
+        sender: fixed(sender)?,
+        role: PortRole::try_from(role)?,
         interval,
-        blocked,
+        blocked: one_of_two(blocked, false, true)?,
     })
 }
 
-// Six octets as an address.
-fn address(octets: &[u8]) -> Option<[u8; 6]>
-    ensures { Passes result (is_address octets.now) (λ a. a ≡ octets.now) }
+// The octets as an array, where there are as many as it has.
+fn fixed<const N: usize>(octets: &[u8]) -> Result<[u8; N], Refusal>
+    ensures { Fits result (length octets.now == N) (λ array. array ≡ octets.now) }
 {
-    if octets.len() != 6 {
-        return None;
-    }
-    let mut address = [0; 6];
-    address.copy_from_slice(octets);
-    Some(address)
+    <[u8; N]>::try_from(octets).map_err(|_| Refusal::FieldValue)
 }
 
-// Sixteen octets as a domain.
-fn domain_of(octets: &[u8]) -> Option<[u8; 16]>
-    ensures { Passes result (is_domain octets.now) (λ d. d ≡ octets.now) }
+// Writes a frame of this content, and answers its total or the number of the refusal. Source, sequence, domain and octets
+// travel one by one, as C hands them in.
+fn send(
+    source: &[u8],
+    content: Result<Content<[u8; 6]>, Refusal>,
+    sequence: u16,
+    domain: &[u8],
+    out: &mut [u8],
+) -> u32
+    ensures answer { result ≡ (sending_content content source.now sequence domain.now out.old).answer }
+    ensures octets { out.new ≡ (sending_content content source.now sequence domain.now out.old).octets }
 {
-    if octets.len() != 16 {
-        return None;
-    }
-    let mut domain = [0; 16];
-    domain.copy_from_slice(octets);
-    Some(domain)
-}
-
-// Writes the frame, and answers its total or the number of the refusal.
-fn send(source: &[u8], body: Body, sequence: u16, domain: &[u8], out: &mut [u8]) -> u32
-    ensures answer { result ≡ (sending_body (body_shown body) source.now sequence domain.now out.old).answer }
-    ensures octets { out.new ≡ (sending_body (body_shown body) source.now sequence domain.now out.old).octets }
-{
-    let Some(source) = address(source) else {
-        return 8;
-    };
-    let Some(domain) = domain_of(domain) else {
-        return 8;
-    };
-    let frame = Outgoing {
-        source,
-        body,
-        sequence,
-        domain,
-    };
-    match write(&frame, out) {
+    match write_content(source, content, sequence, domain, out) {
         Ok(total) => total as u32,
         Err(refusal) => u32::from(refusal.number()),
     }
+}
+
+fn write_content(
+    source: &[u8],
+    content: Result<Content<[u8; 6]>, Refusal>,
+    sequence: u16,
+    domain: &[u8],
+    out: &mut [u8],
+) -> Result<usize, Refusal>
+    ensures short { IfOk result (λ total. total ≤ 60) }
+    ensures sent { sent result out.new ≡ sending_content content source.now sequence domain.now out.old }
+{
+    let frame = Frame {
+        content: content?,
+        source: fixed(source)?,
+        sequence,
+        domain: fixed(domain)?,
+    };
+    write(&frame, out)
 }

@@ -1,3 +1,3 @@
-pub mod Puts
+pub mod Pens
 pub mod Bodies
 pub mod ReadBack

@@ -1,3 +1,3 @@
+pub mod Pens
 pub mod Sent
 pub mod Writing
-pub mod Over

@@ -2,8 +2,10 @@
 #![tactic(auto)]
 
 mod encoder;
-mod octets;
-mod outgoing;
+mod pen;
 
 pub use encoder::write;
-pub use outgoing::{Body, LinkBody, Outgoing};
+use frame::Frame;
+
+// A frame to be written: it has its addresses and its domain itself.
+pub type Outgoing = Frame<[u8; 6], [u8; 16]>;
