@@ -1,16 +1,15 @@
 -- What stands beside a frame of a history.
-use Rattle.std.proofs.Common.{◌≡◌, ℕ, suc, ◌+◌, ◌<◌, ◌≤◌, true, false, eqb, List, length, get_or, vec_items, sym, refl, ap, ◌∙◌, arith}
+use Rattle.std.proofs.Common.{◌≡◌, ℕ, suc, ◌<◌, true, false, eqb, List, length, get_or, vec_len, Vec, Option, sym, refl, ◌∙◌, subst, arith}
+use Rattle.std.specs.declared.alloc.Global.{Global}
 use lib.ListN.{length-map}
 use Rattle.clash.specs.Clashes.{frame_at, nobody, count, same_sender, same_number, other_kind}
+use Rattle.clash.specs.Notes.{Kept, seen_in}
 use Rattle.clash.specs.Places.{last_below, spot}
 use Rattle.clash.specs.Sightings.{Seen, shown}
-use Rattle.clash.specs.Views.{frames_of}
-use Rattle.clash.specs.declared.history.History.{History}
 use Rattle.clash.specs.declared.noted.Noted.{Noted}
-use Rattle.clash.proofs.Counts.{count_same, count_le, count_last}
-use Rattle.clash.proofs.Lasts.{last_same, last_found, last_skip}
+use Rattle.clash.proofs.Lasts.{last_same, last_skip}
 use Rattle.clash.proofs.Mapped.{read_map}
-use Rattle.clash.proofs.Tests.{sender_same, other_same}
+use Rattle.clash.proofs.Tests.{other_same}
 
 pub record Beside (es : List Seen) (i : ℕ) (r : Noted) : Type 0 where
   pub below : i < length es
@@ -19,32 +18,24 @@ pub record Beside (es : List Seen) (i : ℕ) (r : Noted) : Type 0 where
   pub previous : spot r.previous ≡ last_below (λ k. same_number (frame_at es i) (frame_at es k)) i
   pub other : spot r.other ≡ last_below (λ k. other_kind (frame_at es i) (frame_at es k)) i
 
-pub beside : (h : History) (i : ℕ) (r : Noted) → i < length (frames_of h) → r ≡ get_or (vec_items h.noted) i r → Beside (frames_of h) i r
-beside h i r l e =
-    let ns = vec_items h.noted in
-    let b : i < length ns = omega (arith, length-map ns (λ (n : Noted). shown n.seen)) in
-    record {
-      below = l;
+-- there is a note for each frame
+pub as_many : (ns : List Noted) (es : List Seen) → seen_in ns ≡ es → length ns ≡ length es
+as_many ns es v = subst (λ (x : List Seen). length ns ≡ length x) v (sym (length-map ns (λ (n : Noted). shown n.seen)))
+
+pub noted_at : (v : Vec Noted Global) (es : List Seen) (i : ℕ) → seen_in v.items ≡ es → i < length es → i < vec_len v
+noted_at v es i e l = omega (arith, as_many v.items es e, v.ok.0)
+
+pub beside : {f : List ℕ → Option ℕ} {g : ℕ × List ℕ → Option ℕ} (ns : List Noted) (es : List Seen) (i : ℕ) (r : Noted) → seen_in ns ≡ es → Kept ns f g → i < length es → r ≡ get_or ns i r → Beside es i r
+beside ns es i r v w l e =
+    let b : i < length ns = omega (arith, as_many ns es v) in
+    let k : i < length (seen_in ns) = subst (λ (x : List Seen). i < length x) (sym v) l in
+    subst (λ (x : List Seen). Beside x i r) v record {
+      below = k;
       frame = read_map (λ (n : Noted). shown n.seen) ns i r nobody b e;
-      rank = read_map (λ (n : Noted). n.rank) ns i r 0 b e ∙ h.ranked i l;
-      previous = read_map (λ (n : Noted). spot n.previous) ns i r 0 b e ∙ h.preceded i l;
-      other = read_map (λ (n : Noted). spot n.other) ns i r 0 b e ∙ h.differed i l;
+      rank = read_map (λ (n : Noted). n.rank) ns i r 0 b e ∙ w.ranked i k;
+      previous = read_map (λ (n : Noted). spot n.previous) ns i r 0 b e ∙ w.preceded i k;
+      other = read_map (λ (n : Noted). spot n.other) ns i r 0 b e ∙ w.differed i k;
     }
-
-pub latest_below : (es : List Seen) (s : Seen) (i : ℕ) → suc i ≡ last_below (λ k. same_sender s (frame_at es k)) (length es) → i < length es
-latest_below es s i e = (last_found (λ k. same_sender s (frame_at es k)) (length es) i (sym e)).0
-
-pub rank_below : {es : List Seen} {i : ℕ} {r : Noted} → Beside es i r → r.rank ≤ i
-rank_below {es} {i} b = omega (arith, b.rank, count_le (λ k. same_sender (frame_at es i) (frame_at es k)) i)
-
--- the rank of one more frame of a sender, whose latest frame is i
-pub rank_next : {es : List Seen} {i : ℕ} {r : Noted} (s : Seen) → Beside es i r → last_below (λ k. same_sender s (frame_at es k)) (length es) ≡ suc i → r.rank + 1 ≡ count (λ k. same_sender s (frame_at es k)) (length es)
-rank_next {es} {i} {r} s b e =
-    let t : same_sender s (frame_at es i) ≡ true = (last_found (λ k. same_sender s (frame_at es k)) (length es) i e).1 in
-    let last : count (λ k. same_sender s (frame_at es k)) (length es) ≡ count (λ k. same_sender s (frame_at es k)) (suc i) = count_last (λ k. same_sender s (frame_at es k)) (length es) ∙ ap (count (λ k. same_sender s (frame_at es k))) e in
-    let here : count (λ k. same_sender s (frame_at es k)) (suc i) ≡ 1 + count (λ k. same_sender s (frame_at es k)) i = rw t refl in
-    let same : count (λ k. same_sender s (frame_at es k)) i ≡ count (λ k. same_sender (frame_at es i) (frame_at es k)) i = count_same _ _ i (λ k l. sender_same s (frame_at es i) (frame_at es k) t) in
-    omega (arith, b.rank, last, here, same)
 
 pub other_before : (es : List Seen) (s : Seen) (i : ℕ) (r : Noted) → Beside es i r → same_number s (frame_at es i) ≡ true → eqb s.kind (frame_at es i).kind ≡ true → last_below (λ k. other_kind s (frame_at es k)) (suc i) ≡ spot r.other
 other_before es s i r b n k =

@@ -1,8 +1,6 @@
 -- How many places pass a test: the laws of `count`.
-use Rattle.std.proofs.Common.{◌≡◌, ℕ, zero, suc, ◌+◌, ◌<◌, ◌≤◌, Bool, ◌&&◌, ltb, sym, refl, ap, ◌∙◌, inl, inr, arith}
+use Rattle.std.proofs.Common.{◌≡◌, ℕ, zero, suc, ◌+◌, ◌<◌, ◌≤◌, Bool, ◌&&◌, ltb, refl, inl, inr, arith}
 use Rattle.clash.specs.Clashes.{count}
-use Rattle.clash.specs.Places.{last_below}
-use Rattle.clash.proofs.Lasts.{last_here, last_skip}
 use Rattle.std.proofs.lemmas.Bool.{cases_Bool, cases_lt, lt-ltb, le-ltb}
 
 pub count_same : (p q : ℕ → Bool) (m : ℕ) → ((i : ℕ) → i < m → p i ≡ q i) → count p m ≡ count q m
@@ -12,15 +10,6 @@ count_same p q (suc m) h = rw (h m (omega arith), count_same p q m (λ i l. h i 
 pub count_le : (p : ℕ → Bool) (m : ℕ) → count p m ≤ m
 count_le p zero = omega arith
 count_le p (suc m) = elim (cases_Bool (p m)) [ inl t ↦ rw t (omega (arith, count_le p m)) | inr f ↦ rw f (omega (arith, count_le p m)) ]
-
--- none passes above the last that does
-pub count_last : (p : ℕ → Bool) (m : ℕ) → count p m ≡ count p (last_below p m)
-count_last p zero = refl
-count_last p (suc m) =
-    elim (cases_Bool (p m)) [
-      | inl t ↦ ap (count p) (sym (last_here p m t))
-      | inr f ↦ (let e : count p (suc m) ≡ count p m = rw f (omega arith) in e ∙ count_last p m ∙ ap (count p) (sym (last_skip p m f)))
-    ]
 
 -- what passes below m, after place i: the frames strictly between i and m
 abbrev pub after : (ℕ → Bool) → ℕ → ℕ → Bool

@@ -1,7 +1,5 @@
 pub mod Beside
-pub mod Buckets
 pub mod Counts
-pub mod Entries
 pub mod Lasts
 pub mod Mapped
 pub mod Records

@@ -1,16 +1,14 @@
 -- The way back over the frames that a frame clashes with.
-use Rattle.std.proofs.Common.{◌≡◌, ℕ, zero, suc, ◌+◌, ◌-◌, ◌<◌, ◌≤◌, true, false, not, eqb, ltb, List, [], ◌∷◌, ◌++◌, length, get_or, Some, vec_items, Option, sym, refl, ap, ◌∙◌, subst, ap₂, inl, inr, append_assoc, arith}
-use Rattle.clash.specs.Clashes.{frame_at, count, same_sender, same_number, other_kind, between, clash, partners, clash_lines}
+use Rattle.std.proofs.Common.{◌≡◌, ℕ, zero, suc, ◌+◌, ◌-◌, ◌<◌, ◌≤◌, true, false, not, eqb, ltb, List, [], ◌∷◌, length, get_or, Some, Option, sym, refl, ap, ◌∙◌, ap₂, inl, inr, arith}
+use Rattle.clash.specs.Clashes.{frame_at, count, same_sender, same_number, other_kind, between, clash, partners, clash_lines, IsOnTrail}
+use Rattle.clash.specs.Notes.{Kept, seen_in}
 use Rattle.clash.specs.Places.{last_below, spot}
 use Rattle.clash.specs.Sightings.{Seen, shown}
-use Rattle.clash.specs.Views.{frames_of}
-use Rattle.clash.specs.declared.history.History.{History}
 use Rattle.clash.specs.declared.noted.Noted.{Noted}
-use Rattle.clash.proofs.Beside.{Beside, beside}
+use Rattle.clash.proofs.Beside.{Beside, beside, as_many}
 use Rattle.clash.proofs.Counts.{count_same, count_split, after_more}
-use Rattle.clash.proofs.Lasts.{last_same, last_le, last_found, last_here, last_skip}
+use Rattle.clash.proofs.Lasts.{last_same, last_found, last_here, last_skip}
 use Rattle.clash.proofs.Tests.{sender_same, number_same, other_within}
-use Rattle.std.proofs.lemmas.List.{append-nil}
 use Rattle.std.proofs.lemmas.Bool.{and_parts, and_from, and_left, and_right, cases_Bool, cond-true, cond-false, lt-ltb, le-ltb, ltb-true, ltb-false}
 
 partners_skip : (es : List Seen) (j m : ℕ) → clash es m j ≡ false → partners es j (suc m) ≡ partners es j m
@@ -47,56 +45,37 @@ number_part a b t = (and_parts (same_number a b) (not (eqb a.kind b.kind)) t).0
 sender_part : (a b : Seen) → other_kind a b ≡ true → same_sender a b ≡ true
 sender_part a b t = (and_parts (eqb a.sequence b.sequence) (same_sender a b) (number_part a b t)).1
 
--- the search for the clashes of frame j has put `out` together, and come to `s`: 0, or one more than a place
-pub record Trail (es : List Seen) (j s : ℕ) (out : List ℕ) : Type 0 where
-  pub within : (i : ℕ) → s ≡ suc i → (i < j) × (other_kind (frame_at es j) (frame_at es i) ≡ true)
-  pub rest : out ++ partners es j s ≡ partners es j j
-
-pub trail_start : (h : History) {j : ℕ} {q : Noted} {out : List ℕ} → true ≡ ltb j (length (frames_of h)) → q ≡ get_or (vec_items h.noted) j q → out ≡ [] → Trail (frames_of h) j (spot q.other) out
-trail_start h {j} {q} {out} l x e =
-    let es = frames_of h in
-    let k : j < length (frames_of h) = ltb-true j (length (frames_of h)) (sym l) in
-    let d = beside h j q k x in
-    record {
-      within = λ i y. last_found (λ k. other_kind (frame_at es j) (frame_at es k)) j i (sym d.other ∙ y);
-      rest = ap (λ (xs : List ℕ). xs ++ partners es j (spot q.other)) e ∙ ap (partners es j) d.other ∙ sym (partners_within es j j);
-    }
-
 -- a turn of the search: it has come to place i, beside which r stands, and q stands beside frame j
-pub record Turn (es : List Seen) (i j : ℕ) (r q : Noted) (out : List ℕ) : Type 0 where
-  pub trail : Trail es j (suc i) out
+pub record Turn (es : List Seen) (i j : ℕ) (r q : Noted) : Type 0 where
+  pub within : (i < j) × (j < length es) × (other_kind (frame_at es j) (frame_at es i) ≡ true)
   pub here : Beside es i r
   pub top : Beside es j q
 
-pub turn : (h : History) {i j : ℕ} {r q : Noted} {o : Option ℕ} {out : List ℕ} → true ≡ ltb j (length (frames_of h)) → q ≡ get_or (vec_items h.noted) j q → o ≡ Some i → Trail (frames_of h) j (spot o) out → r ≡ get_or (vec_items h.noted) i r → Turn (frames_of h) i j r q out
-turn h {i} {j} {r} {q} {o} {out} l x e t y =
-    let k : j < length (frames_of h) = ltb-true j (length (frames_of h)) (sym l) in
-    let a = subst (λ (z : Option ℕ). Trail (frames_of h) j (spot z) out) e t in
-    let b : i < length (frames_of h) = omega (arith, (a.within i refl).0) in
-    record { trail = a; here = beside h i r b y; top = beside h j q k x }
+pub turn : {f : List ℕ → Option ℕ} {g : ℕ × List ℕ → Option ℕ} (ns : List Noted) {es : List Seen} {i j : ℕ} {r q : Noted} {o : Option ℕ} → seen_in ns ≡ es → Kept ns f g → IsOnTrail es j (spot o) → o ≡ Some i → q ≡ get_or ns j q → r ≡ get_or ns i r → Turn es i j r q
+turn ns {es} {i} {j} {r} {q} {o} v w t e x y =
+    let a = t i (ap spot e) in
+    let b : i < length es = omega (arith, a.0, a.1) in
+    record { within = a; here = beside ns es i r v w b y; top = beside ns es j q v w a.1 x }
 
-rank_apart : {es : List Seen} {i j : ℕ} {r q : Noted} {out : List ℕ} → Turn es i j r q out → q.rank ≡ r.rank + 1 + between es i j
-rank_apart {es} {i} {j} {r} {q} t =
-    let w = t.trail.within i refl in
-    apart es i j r q t.here t.top w.0 (sender_part (frame_at es j) (frame_at es i) w.1)
+rank_apart : {es : List Seen} {i j : ℕ} {r q : Noted} → Turn es i j r q → q.rank ≡ r.rank + 1 + between es i j
+rank_apart {es} {i} {j} {r} {q} t = apart es i j r q t.here t.top t.within.0 (sender_part (frame_at es j) (frame_at es i) t.within.2)
 
-pub ranks_ordered : {es : List Seen} {i j : ℕ} {r q : Noted} {out : List ℕ} → Turn es i j r q out → r.rank ≤ q.rank
+pub ranks_ordered : {es : List Seen} {i j : ℕ} {r q : Noted} → Turn es i j r q → r.rank ≤ q.rank
 ranks_ordered t = omega (arith, rank_apart t)
 
 -- nothing clashes from the first frame on that lies too far back
-pub trail_past : {es : List Seen} {i j : ℕ} {r q : Noted} {out : List ℕ} → Turn es i j r q out → true ≡ ltb 32768 (q.rank - r.rank) → out ≡ partners es j j
-trail_past {es} {i} {j} {r} {q} {out} t p =
+pub none_past : {es : List Seen} {i j : ℕ} {r q : Noted} → Turn es i j r q → true ≡ ltb 32768 (q.rank - r.rank) → partners es j (suc i) ≡ []
+none_past {es} {i} {j} {r} {q} t p =
     let far : 32768 ≤ between es i j = omega (arith, rank_apart t, ltb-true 32768 (q.rank - r.rank) (sym p)) in
-    let none = partners_none es j (suc i) (λ k l. and_right (other_kind (frame_at es j) (frame_at es k)) (ltb (between es k j) 32768)
-    (le-ltb (between es k j) 32768 (omega (arith, far, after_more (λ x. same_sender (frame_at es j) (frame_at es x)) i k j (omega arith))))) in
-    sym (append-nil out) ∙ ap (λ (xs : List ℕ). out ++ xs) (sym none) ∙ t.trail.rest
+    partners_none es j (suc i) (λ k l. and_right (other_kind (frame_at es j) (frame_at es k)) (ltb (between es k j) 32768)
+    (le-ltb (between es k j) 32768 (omega (arith, far, after_more (λ x. same_sender (frame_at es j) (frame_at es x)) i k j (omega arith)))))
 
-previous_for : {es : List Seen} {i j : ℕ} {r q : Noted} {out : List ℕ} → Turn es i j r q out → spot r.previous ≡ last_below (λ k. same_number (frame_at es j) (frame_at es k)) i
+previous_for : {es : List Seen} {i j : ℕ} {r q : Noted} → Turn es i j r q → spot r.previous ≡ last_below (λ k. same_number (frame_at es j) (frame_at es k)) i
 previous_for {es} {i} {j} t =
-    let same = number_part (frame_at es j) (frame_at es i) (t.trail.within i refl).1 in
+    let same = number_part (frame_at es j) (frame_at es i) t.within.2 in
     t.here.previous ∙ sym (last_same _ _ i (λ k l. number_same (frame_at es j) (frame_at es i) (frame_at es k) same))
 
-pub previous_found : {es : List Seen} {i j : ℕ} {r q : Noted} {out : List ℕ} → Turn es i j r q out → (k : ℕ) → spot r.previous ≡ suc k → (k < length es) × (same_number (shown q.seen) (frame_at es k) ≡ true)
+pub previous_found : {es : List Seen} {i j : ℕ} {r q : Noted} → Turn es i j r q → (k : ℕ) → spot r.previous ≡ suc k → (k < length es) × (same_number (shown q.seen) (frame_at es k) ≡ true)
 previous_found {es} {i} {j} t k h =
     let f = last_found (λ x. same_number (frame_at es j) (frame_at es x)) i k (sym (previous_for t) ∙ h) in
     (omega (arith, f.0, t.here.below), ap (λ (x : Seen). same_number x (frame_at es k)) t.top.frame ∙ f.1)
@@ -105,27 +84,32 @@ previous_found {es} {i} {j} t k h =
 abbrev pub Onto : List Seen → Noted → Noted → ℕ → Type 0
 Onto es r q o = o ≡ last_below (λ k. other_kind (shown q.seen) (frame_at es k)) (spot r.previous)
 
-onto : {es : List Seen} {i j : ℕ} {r q : Noted} {out : List ℕ} → Turn es i j r q out → (o : ℕ) → Onto es r q o → o ≡ last_below (λ k. other_kind (frame_at es j) (frame_at es k)) i
+onto : {es : List Seen} {i j : ℕ} {r q : Noted} → Turn es i j r q → (o : ℕ) → Onto es r q o → o ≡ last_below (λ k. other_kind (frame_at es j) (frame_at es k)) i
 onto {es} {i} {j} t o h =
     h ∙ ap₂ (λ (x : Seen) (m : ℕ). last_below (λ k. other_kind x (frame_at es k)) m) t.top.frame (previous_for t) ∙ sym (other_within es (frame_at es j) i)
 
-pub trail_falls : {es : List Seen} {i j : ℕ} {r q : Noted} {out : List ℕ} → Turn es i j r q out → (o : ℕ) → Onto es r q o → o < suc i
-trail_falls {es} {i} {j} t o h = omega (arith, onto t o h, last_le (λ k. other_kind (frame_at es j) (frame_at es k)) i)
+pub goes_on : {es : List Seen} {i j : ℕ} {r q : Noted} → Turn es i j r q → (o : ℕ) → Onto es r q o → IsOnTrail es j o
+goes_on {es} {i} {j} t o h k x =
+    let f = last_found (λ y. other_kind (frame_at es j) (frame_at es y)) i k (sym (onto t o h) ∙ x) in
+    (omega (arith, f.0, t.within.0), t.within.1, f.1)
 
-pub trail_step : {es : List Seen} {i j : ℕ} {r q : Noted} {out : List ℕ} → Turn es i j r q out → (o : ℕ) → Onto es r q o → false ≡ ltb 32768 (q.rank - r.rank) → (out' : List ℕ) → out' ≡ out ++ r.seen.line ∷ [] → Trail es j o out'
-trail_step {es} {i} {j} {r} {q} {out} t o h p out' e =
-    let w = t.trail.within i refl in
-    let next = onto t o h in
+pub one_more : {es : List Seen} {i j : ℕ} {r q : Noted} → Turn es i j r q → (o : ℕ) → Onto es r q o → false ≡ ltb 32768 (q.rank - r.rank) → partners es j (suc i) ≡ r.seen.line ∷ partners es j o
+one_more {es} {i} {j} {r} {q} t o h p =
     let near : between es i j < 32768 = omega (arith, rank_apart t, ltb-false 32768 (q.rank - r.rank) (sym p)) in
-    let here = partners_here es j i (and_from (other_kind (frame_at es j) (frame_at es i)) (ltb (between es i j) 32768) w.1 (lt-ltb (between es i j) 32768 near)) in
+    let here = partners_here es j i (and_from (other_kind (frame_at es j) (frame_at es i)) (ltb (between es i j) 32768) t.within.2 (lt-ltb (between es i j) 32768 near)) in
     let line = ap (λ (x : Seen). x.line) t.here.frame in
-    let back = ap (partners es j) next ∙ sym (partners_within es j i) in
-    record {
-      within = λ k x. let f = last_found (λ y. other_kind (frame_at es j) (frame_at es y)) i k (sym next ∙ x) in (omega (arith, f.0, w.0), f.1);
-      rest = ap (λ (xs : List ℕ). xs ++ partners es j o) e ∙ append_assoc out (r.seen.line ∷ []) (partners es j o)
-          ∙ ap₂ (λ (x : ℕ) (xs : List ℕ). out ++ (x ∷ xs)) line back ∙ ap (λ (xs : List ℕ). out ++ xs) (sym here) ∙ t.trail.rest;
-    }
+    here ∙ ap₂ (λ (x : ℕ) (xs : List ℕ). x ∷ xs) (sym line) (partners_within es j i ∙ ap (partners es j) (sym (onto t o h)))
 
--- what the search puts together is the list of all clashes of frame j
-pub lines_all : (h : History) (j : ℕ) {out : List ℕ} → true ≡ ltb j (length (frames_of h)) → out ≡ partners (frames_of h) j j → out ≡ clash_lines (frames_of h) j
-lines_all h j l e = e ∙ sym (cond-true (ltb j (length (frames_of h))) (partners (frames_of h) j j) [] (sym l))
+-- how a search begins: at the latest frame that frame j may clash with
+pub record Begins (es : List Seen) (j s : ℕ) : Type 0 where
+  pub trail : IsOnTrail es j s
+  pub all : partners es j s ≡ clash_lines es j
+
+pub begins : {f : List ℕ → Option ℕ} {g : ℕ × List ℕ → Option ℕ} (ns : List Noted) (es : List Seen) (j : ℕ) (q : Noted) → seen_in ns ≡ es → Kept ns f g → j < length ns → q ≡ get_or ns j q → Begins es j (spot q.other)
+begins ns es j q v w b e =
+    let l : j < length es = omega (arith, as_many ns es v) in
+    let d = beside ns es j q v w l e in
+    record {
+      trail = λ i y. let f = last_found (λ k. other_kind (frame_at es j) (frame_at es k)) j i (sym d.other ∙ y) in (f.0, l, f.1);
+      all = ap (partners es j) d.other ∙ sym (partners_within es j j) ∙ sym (cond-true (ltb j (length es)) (partners es j j) [] (lt-ltb j (length es) l));
+    }

@@ -1,5 +1,5 @@
 -- Which frames clash: one sender used one sequence number on two kinds of frame, not too long ago.
-use Rattle.std.specs.Prelude.{ℕ, zero, suc, ◌+◌, Bool, cond, not, ◌&&◌, List, [], ◌∷◌, length, ◌==◌, nat_lt, slice_index_or}
+use Rattle.std.specs.Prelude.{◌≡◌, ℕ, zero, suc, ◌+◌, ◌<◌, Bool, true, cond, not, ◌&&◌, List, [], ◌∷◌, length, ◌==◌, nat_lt, slice_index_or}
 use Rattle.clash.specs.Sightings.{Seen}
 use Rattle.std.specs.Str.{bytes_eq}
 
@@ -44,3 +44,7 @@ partners es j (suc m) = cond (clash es m j) ((frame_at es m).line ∷ partners e
 -- the lines of all earlier frames that frame j clashes with, newest first
 abbrev pub clash_lines : List Seen → ℕ → List ℕ
 clash_lines es j = cond (nat_lt j (length es)) (partners es j j) []
+
+-- a search for the clashes of frame j has come to `s`: 0, or one more than the place of an earlier frame with its sender and number and another kind
+abbrev pub IsOnTrail : List Seen → ℕ → ℕ → Type 0
+IsOnTrail es j s = (i : ℕ) → s ≡ suc i → (i < j) × (j < length es) × (other_kind (frame_at es j) (frame_at es i) ≡ true)

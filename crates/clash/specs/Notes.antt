@@ -1,5 +1,7 @@
 -- What stands beside each frame of a history.
-use Rattle.std.specs.Prelude.{◌≡◌, ℕ, ◌<◌, Bool, List, ◌∷◌, map, length, slice_index}
+use Rattle.std.specs.Prelude.{◌≡◌, ℕ, ◌<◌, Bool, ◌&&◌, List, map, length, Option, nat_eq, slice_index}
+use Rattle.std.specs.Map.{count_at}
+use Rattle.std.specs.Str.{bytes_eq}
 use Rattle.clash.specs.Clashes.{frame_at, count, same_sender, same_number, other_kind}
 use Rattle.clash.specs.Places.{spot, last_below}
 use Rattle.clash.specs.Sightings.{Seen, shown}
@@ -19,16 +21,33 @@ previous_in ns = map (λ (n : Noted). spot n.previous) ns
 abbrev pub others_in : List Noted → List ℕ
 others_in ns = map (λ (n : Noted). spot n.other) ns
 
--- the keys that a frame is looked up by: its sender alone, and with its sequence number
-abbrev pub sender_key : Seen → List ℕ
-sender_key s = 0 ∷ s.sender
-
-abbrev pub number_key : Seen → List ℕ
-number_key s = s.sequence ∷ s.sender
-
 -- beside each frame stands what F finds, of the frames before it, by the test R
 abbrev pub Recorded : ((ℕ → Bool) → ℕ → ℕ) → (Seen → Seen → Bool) → List Seen → List ℕ → Type 0
 Recorded F R es vs = (j : ℕ) → j < length es → slice_index vs j ≡ F (λ i. R (frame_at es j) (frame_at es i)) j
+
+-- how many frames each sender has
+abbrev pub Counted : List Seen → (List ℕ → Option ℕ) → Type 0
+Counted es f = (k : List ℕ) → count_at f k ≡ count (λ i. bytes_eq k (frame_at es i).sender) (length es)
+
+-- the number of a frame: its sequence number, and its sender
+abbrev pub number_of : Seen → ℕ × List ℕ
+number_of s = (s.sequence, s.sender)
+
+-- two numbers are one
+abbrev pub number_eq : ℕ × List ℕ → ℕ × List ℕ → Bool
+number_eq a b = nat_eq a.0 b.0 && bytes_eq a.1 b.1
+
+-- which frame is the latest with each number
+abbrev pub Latest : List Seen → (ℕ × List ℕ → Option ℕ) → Type 0
+Latest es f = (k : ℕ × List ℕ) → spot (f k) ≡ last_below (λ i. number_eq k (number_of (frame_at es i))) (length es)
+
+-- what is true of a history: what stands beside its frames, and what is found by a sender and by a number of a sender
+pub record Kept (ns : List Noted) (counts : List ℕ → Option ℕ) (numbers : ℕ × List ℕ → Option ℕ) : Type 0 where
+  pub ranked : Recorded count same_sender (seen_in ns) (ranks_in ns)
+  pub preceded : Recorded last_below same_number (seen_in ns) (previous_in ns)
+  pub differed : Recorded last_below other_kind (seen_in ns) (others_in ns)
+  pub counted : Counted (seen_in ns) counts
+  pub latest : Latest (seen_in ns) numbers
 
 -- what is to stand beside one more frame
 pub record Described (es : List Seen) (s : Seen) (r : Noted) : Type 0 where

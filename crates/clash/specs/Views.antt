@@ -1,14 +1,14 @@
--- What a history holds.
-use Rattle.std.specs.Prelude.{◌+◌, ◌≤◌, List, vec_items, vec_len, vec_capacity}
-use Rattle.clash.specs.Indexes.{Roomy}
-use Rattle.clash.specs.Notes.{seen_in}
+-- What a history holds, and what is true of it.
+use Rattle.std.specs.Prelude.{List}
+use Rattle.std.specs.HashMap.{get}
+use Rattle.std.specs.Str.{bytes_eq}
+use Rattle.clash.specs.Notes.{Kept, number_eq, seen_in}
 use Rattle.clash.specs.Sightings.{Seen}
-use Rattle.clash.specs.declared.history.History.{History}
+use Rattle.clash.specs.declared.history.History.TheInside.{Inside}
 
 -- the accepted frames of a history, in order
-abbrev pub frames_of : History → List Seen
-frames_of h = seen_in (vec_items h.noted)
+abbrev pub frames_of : Inside → List Seen
+frames_of h = seen_in h.noted.items
 
--- there is room for one more frame
-abbrev pub Ready : History → Type 0
-Ready h = (vec_len h.noted + 1 ≤ vec_capacity h.noted) × Roomy h.senders × Roomy h.numbers
+abbrev pub IsWhole : Inside → Type 0
+IsWhole h = Kept h.noted.items (get bytes_eq h.counts) (get number_eq h.numbers)

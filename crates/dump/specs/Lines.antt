@@ -1,10 +1,10 @@
 -- What becomes of a line, by its characters.
-use Rattle.std.specs.Prelude.{ℕ, List, [], ◌∷◌, Some, None, Ok, Err, Option}
+use Rattle.std.specs.Prelude.{ℕ, List, [], ◌∷◌, Some, None, Option}
 use Rattle.hexline.specs.Line.{octets_of}
 use Rattle.layout.specs.Reading.{Reading, reading}
 use Rattle.frame.specs.Shown.{outcome}
 use Rattle.dump.specs.declared.verdict.Verdict as code
-use Rattle.dump.specs.declared.verdict.Verdict.TheVariants.{Blank, NotOctets, Accepted, Refused}
+use Rattle.dump.specs.declared.verdict.Verdict.TheVariants.{Blank, NotOctets, Read}
 
 pub data Verdict : Type 0 where
   blank : Verdict
@@ -24,5 +24,4 @@ line_verdict characters = octets_verdict (octets_of characters)
 abbrev pub verdict_shown : code.Verdict → Verdict
 verdict_shown Blank = blank
 verdict_shown NotOctets = not_octets
-verdict_shown (Accepted f) = read (outcome (Ok f))
-verdict_shown (Refused e) = read (outcome (Err e))
+verdict_shown (Read result) = read (outcome result)

@@ -2,22 +2,18 @@
 ghost use Rattle.std.specs.Prelude.{◌≡◌};
 ghost use Rattle.std.specs.Option.{option_map};
 ghost use Rattle.clash.specs.Sightings.{shown};
+ghost use Rattle.element.specs.Shown.{part_of};
 ghost use Rattle.frame.specs.Shown.{content_sender, content_kind};
 ghost use Rattle.dump.specs.Sightings.{sighting_of};
 
 use clash::Sighting;
-use frame::Frame;
+use frame::Received;
 
 // The frame that stood in a line; its sender has six octets.
-pub fn sighting(line: usize, frame: &Frame) -> Option<Sighting>
-    ensures { option_map shown result ≡ sighting_of line (content_sender frame.now.content) (content_kind frame.now.content) frame.now.sequence }
+pub fn sighting(line: usize, frame: &Received) -> Option<Sighting>
+    ensures { option_map shown result ≡ sighting_of line (part_of (content_sender frame.now.content)) (content_kind frame.now.content) frame.now.sequence }
 {
-    let octets = frame.content.sender().octets;
-    if octets.len() != 6 {
-        return None;
-    }
-    let mut sender = [0; 6];
-    sender.copy_from_slice(octets);
+    let sender = <[u8; 6]>::try_from(frame.content.sender().octets).ok()?;
     Some(Sighting {
         line,
         sender,

@@ -5,25 +5,22 @@ ghost use Rattle.dump.specs.Counts.{more, more_at};
 
 use refusal::Refusal;
 
-#[derive(Clone, Copy)]
+#[derive(Clone, Copy, Default)]
 pub struct Tally {
     pub accepted: u64,
-    // At each place the frames that were refused by that number.
+    // At each place the frames that were refused by that number: they are printed in the order of the numbers.
     pub refused: [u64; 26],
     pub not_octets: u64,
 }
 
+// A clause for each count, of those that stay too: plainer to read than one of a whole tally.
 impl Tally {
     pub fn new() -> Tally
         ensures accepted { result.accepted ≡ 0 }
         ensures refused { result.refused ≡ replicate 26 0 }
         ensures not_octets { result.not_octets ≡ 0 }
     {
-        Tally {
-            accepted: 0,
-            refused: [0; 26],
-            not_octets: 0,
-        }
+        Tally::default()
     }
 
     pub fn accept(&mut self)

@@ -1,10 +1,10 @@
-// What becomes of a line: nothing, no octets, a frame that is accepted or one that is refused.
+// What becomes of a line: nothing, no octets, or a frame that is accepted or refused.
 ghost use Rattle.std.specs.Prelude.{◌≡◌, ℕ, List, []};
 ghost use Rattle.hexline.specs.Line.{content_of};
 ghost use Rattle.hexline.specs.Meaning.{holds};
 ghost use Rattle.dump.specs.Lines.{line_verdict, verdict_shown};
 
-use frame::{Frame, read};
+use frame::{Received, read};
 use hexline::{Line, Reading};
 use refusal::Refusal;
 
@@ -12,8 +12,8 @@ use refusal::Refusal;
 pub enum Verdict<'a> {
     Blank,
     NotOctets,
-    Accepted(Frame<'a>),
-    Refused(Refusal),
+    // The frame that its octets are, or why they are none.
+    Read(Result<Received<'a>, Refusal>),
 }
 
 // The verdict on a line whose characters have all been fed.
@@ -23,9 +23,6 @@ pub fn judge<'a>(line: &'a Line) -> Verdict<'a>
     match line.reading() {
         Reading::Blank => Verdict::Blank,
         Reading::NotHex => Verdict::NotOctets,
-        Reading::Octets(octets) => match read(octets) {
-            Ok(frame) => Verdict::Accepted(frame),
-            Err(refusal) => Verdict::Refused(refusal),
-        },
+        Reading::Octets(octets) => Verdict::Read(read(octets)),
     }
 }

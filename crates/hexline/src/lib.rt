@@ -15,12 +15,8 @@ pub use reader::{Line, Reading};
 fn digit(c: u8) -> Option<u8>
     ensures { result ≡ digit_of c }
 {
-    match c {
-        b'0'..=b'9' => Some(c - b'0'),
-        b'a'..=b'f' => Some(c - b'a' + 10),
-        b'A'..=b'F' => Some(c - b'A' + 10),
-        _ => None,
-    }
+    let digit = char::from(c).to_digit(16)?;
+    Some(digit as u8)
 }
 
 // Whether a character may stand between octets and means nothing there.

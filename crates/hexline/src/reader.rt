@@ -16,7 +16,8 @@ pub(crate) enum Place {
     Bad,
 }
 
-// A line so far: its first octets, and where it stands.
+// A line so far: its first octets, and where it stands. Callers copy a line, as the library's `ArrayVec` cannot be. Clauses
+// see it by `holds`, a function of what still follows, which the value of a Model can't be.
 #[derive(Clone, Copy)]
 pub struct Line {
     pub(crate) kept: [u8; KEPT],
@@ -26,7 +27,7 @@ pub struct Line {
     ghost small: { open_digit place < 16 },
 }
 
-// What a line says.
+// What a line says. Three answers by their names: an Option in a Result would have none for them.
 #[derive(Clone, Copy)]
 pub enum Reading<'a> {
     // It has no octet.

@@ -1,15 +1,14 @@
 // A dump in progress: the line that is being read, what was counted, and the accepted frames.
 use clash::History;
 use dump::{Tally, Verdict, judge, sighting};
-use frame::Frame;
+use frame::Received;
 use hexline::Line;
 use std::alloc::Global;
 use std::io::Write;
-use text::{frame_text, octets_text};
+use text::{FrameText, Octets};
 
 #[derive(Drop)]
 pub struct Dump {
-    heap: Global,
     line: Line,
     number: usize,
     tally: Tally,
@@ -19,7 +18,6 @@ pub struct Dump {
 impl Dump {
     pub fn new(heap: Global) -> anyhow::Result<Dump> {
         Ok(Dump {
-            heap,
             line: Line::new(),
             number: 1,
             tally: Tally::new(),
@@ -48,25 +46,24 @@ impl Dump {
                 self.tally.skip();
                 writeln!(out, "- not hexadecimal octets")?;
             }
-            Verdict::Refused(refusal) => {
+            Verdict::Read(Err(refusal)) => {
                 self.tally.refuse(refusal);
                 let number = refusal.number();
                 writeln!(out, "{number} {refusal}")?;
             }
-            Verdict::Accepted(frame) => self.accept(frame, out)?,
+            Verdict::Read(Ok(frame)) => self.accept(&frame, out)?,
         }
         self.line = Line::new();
         self.number = self.number.saturating_add(1);
         Ok(())
     }
 
-    fn accept<W: Write>(&mut self, frame: Frame, out: &mut W) -> anyhow::Result<()> {
+    fn accept<W: Write>(&mut self, frame: &Received, out: &mut W) -> anyhow::Result<()> {
         self.tally.accept();
-        if let Some(seen) = sighting(self.number, &frame) {
+        if let Some(seen) = sighting(self.number, frame) {
             self.history.note(seen)?;
         }
-        let text = frame_text(self.heap, &frame)?;
-        writeln!(out, "0 {text}")?;
+        writeln!(out, "0 {}", FrameText(frame))?;
         Ok(())
     }
 
@@ -86,19 +83,15 @@ impl Dump {
     }
 
     fn clashes<W: Write>(&self, out: &mut W) -> anyhow::Result<()> {
-        let mut earlier = Vec::new(self.heap);
-        for j in 0..self.history.len() {
-            self.history.clashes(j, &mut earlier)?;
-            if let Some(seen) = self.history.sighting(j) {
-                let line = seen.line;
-                let sender = octets_text(self.heap, &seen.sender)?;
-                let sequence = seen.sequence;
-                for first in earlier.iter() {
-                    writeln!(
-                        out,
-                        "# clash: lines {first} and {line} sender={sender} sequence={sequence}"
-                    )?;
-                }
+        for (place, noted) in self.history.noted().iter().enumerate() {
+            let line = noted.seen.line;
+            let sender = Octets(&noted.seen.sender);
+            let sequence = noted.seen.sequence;
+            for first in self.history.clashes(place) {
+                writeln!(
+                    out,
+                    "# clash: lines {first} and {line} sender={sender} sequence={sequence}"
+                )?;
             }
         }
         Ok(())

@@ -1,5 +1,6 @@
 -- The text of a frame: its kind and its fields, with numbers in decimal and octets in hexadecimal.
 use Rattle.std.specs.Prelude.{ℕ, ◌+◌, ◌/◌, ◌%◌, cond, List, [], ◌∷◌, ◌++◌, codes, decimal, nat_lt}
+use Rattle.std.specs.List.{flat_map}
 use Rattle.kind.specs.declared.Kind.{Kind}
 use Rattle.kind.specs.Kinds.{name_of}
 use Rattle.layout.specs.Fields.{Part}
@@ -13,15 +14,10 @@ digit_text n = cond (nat_lt n 10) (48 + n) (55 + n)
 abbrev pub pair_text : ℕ → List ℕ
 pair_text n = digit_text (n / 16) ∷ digit_text (n % 16) ∷ []
 
--- octets, each after a dash
-abbrev pub dashes_text : List ℕ → List ℕ
-dashes_text [] = []
-dashes_text (x ∷ xs) = (45 ∷ pair_text x) ++ dashes_text xs
-
 -- octets with dashes between them
 abbrev pub octets_text : List ℕ → List ℕ
 octets_text [] = []
-octets_text (x ∷ xs) = pair_text x ++ dashes_text xs
+octets_text (x ∷ xs) = pair_text x ++ flat_map (λ y. 45 ∷ pair_text y) xs
 
 -- the fields of LinkDown and LinkUp
 abbrev pub link_text : Part → ℕ → ℕ → ℕ → List ℕ
@@ -34,13 +30,13 @@ ring_text role state transitions stamp =
     codes " role=" ++ (decimal role ++ (codes " state=" ++ (decimal state ++ (codes " transitions=" ++ (decimal transitions ++ (codes " stamp=" ++ decimal stamp))))))
 
 -- the fields of Test
-abbrev pub test_text : ℕ → List ℕ → ℕ → ℕ → ℕ → ℕ → List ℕ
+abbrev pub test_text : ℕ → Part → ℕ → ℕ → ℕ → ℕ → List ℕ
 test_text priority sender role state transitions stamp =
-    codes " priority=" ++ (decimal priority ++ (codes " sender=" ++ (octets_text sender ++ ring_text role state transitions stamp)))
+    codes " priority=" ++ (decimal priority ++ (codes " sender=" ++ (octets_text sender.octets ++ ring_text role state transitions stamp)))
 
 -- the fields of a first element
 abbrev pub content_text : Element → List ℕ
-content_text (test p s r t n c) = test_text p s.octets r t n c
+content_text (test p s r t n c) = test_text p s r t n c
 content_text (topology_change p s i) = codes " priority=" ++ (decimal p ++ (codes " sender=" ++ (octets_text s.octets ++ (codes " interval=" ++ decimal i))))
 content_text (link_down s r i b) = link_text s r i b
 content_text (link_up s r i b) = link_text s r i b

@@ -4,5 +4,5 @@
 mod fields;
 mod octets;
 
-pub use fields::frame_text;
-pub use octets::octets_text;
+pub use fields::FrameText;
+pub use octets::Octets;

@@ -1,40 +1,34 @@
 // Octets as text: pairs of hexadecimal digits with dashes between them.
-ghost use Rattle.std.specs.Prelude.{◌≡◌, ◌<◌, ◌++◌, IfOk, string_bytes, OnOk};
-ghost use Rattle.text.specs.Text.{digit_text, pair_text, octets_text};
+ghost use Rattle.std.specs.Prelude.{Some};
+ghost use Rattle.text.specs.Text.{pair_text, octets_text};
 
-use std::alloc::{AllocError, Global};
+use std::fmt;
 
-pub fn octets_text(heap: Global, octets: &[u8]) -> Result<String, AllocError>
-    ensures { IfOk result (λ text. string_bytes text ≡ octets_text octets.now) }
-{
-    let mut text = String::new(heap);
-    let [first, rest @ ..] = octets else {
-        return Ok(text);
-    };
-    push_pair(&mut text, *first)?;
-    for octet in rest {
-        text.push('-')?;
-        push_pair(&mut text, *octet)?;
+#[derive(Clone, Copy)]
+pub struct Octets<'a>(pub &'a [u8]);
+
+#[derive(Clone, Copy)]
+struct Pair(u8);
+
+impl fmt::Display for Octets<'_> {
+    ghost output = { λ octets. Some (octets_text octets.0.now) };
+
+    fn fmt<W: fmt::Write>(&self, f: &mut fmt::Formatter<W>) -> fmt::Result {
+        if let [first, rest @ ..] = self.0 {
+            f.write(Pair(*first))?;
+            for octet in rest {
+                write!(f, "-{}", Pair(*octet))?;
+            }
+        }
+        Ok(())
     }
-    Ok(text)
 }
 
-fn push_pair(text: &mut String, octet: u8) -> Result<(), AllocError>
-    ensures { OnOk result (string_bytes text.new ≡ string_bytes text.old ++ pair_text octet) }
-{
-    text.push(digit(octet / 16))?;
-    text.push(digit(octet % 16))?;
-    Ok(())
-}
+impl fmt::Display for Pair {
+    ghost output = { λ pair. Some (pair_text pair.0) };
 
-fn digit(n: u8) -> char
-    requires { n < 16 }
-    ensures value { result ≡ digit_text n }
-    ensures ascii { result < 128 }
-{
-    if n < 10 {
-        (b'0' + n) as char
-    } else {
-        (b'A' + (n - 10)) as char
+    fn fmt<W: fmt::Write>(&self, f: &mut fmt::Formatter<W>) -> fmt::Result {
+        let octet = self.0;
+        write!(f, "{octet:02X}")
     }
 }

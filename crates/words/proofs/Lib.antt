@@ -1,2 +1,3 @@
 -- Lemmas on the definitions.
+mod Parts
 mod Steps

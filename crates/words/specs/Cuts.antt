@@ -1,38 +1,30 @@
 -- The words of a line, by the list of its characters.
-use Rattle.std.specs.Prelude.{ℕ, ◌+◌, Bool, true, cond, not, ◌&&◌, ◌||◌, List, [], ◌∷◌, take, drop, ◌==◌}
-use Rattle.words.specs.declared.line.Mark.{Mark}
-use Rattle.words.specs.declared.line.Mark.TheVariants.{Space, NoSpace, Comment}
+use Rattle.std.specs.Prelude.{ℕ, ◌+◌, Bool, true, cond, not, ◌&&◌, ◌||◌, List, [], ◌∷◌, drop, ◌==◌}
+use Rattle.std.specs.List.{before_first, prefix_len, position_or_len}
 
 -- a space, a tab or a carriage return
 abbrev pub is_space : ℕ → Bool
 is_space c = c == 32 || c == 9 || c == 13
 
 -- a comment begins with a number sign
-abbrev pub is_mark : Mark → ℕ → Bool
-is_mark Space c = is_space c
-is_mark NoSpace c = not (is_space c)
-is_mark Comment c = c == 35
-
--- how many characters stand before the first mark
-abbrev pub length_to : Mark → List ℕ → ℕ
-length_to mark [] = 0
-length_to mark (c ∷ rest) = cond (is_mark mark c) 0 (1 + length_to mark rest)
+abbrev pub begins_comment : ℕ → Bool
+begins_comment c = c == 35
 
 -- the line up to its comment
 abbrev pub before_comment : List ℕ → List ℕ
-before_comment line = take (length_to Comment line) line
+before_comment line = before_first begins_comment line
 
 -- the text from its first word on
 abbrev pub from_word : List ℕ → List ℕ
-from_word text = drop (length_to NoSpace text) text
+from_word text = drop (prefix_len is_space text) text
 
 -- the first word, which is empty where there is none
 abbrev pub first_word : List ℕ → List ℕ
-first_word text = take (length_to Space (from_word text)) (from_word text)
+first_word text = before_first is_space (from_word text)
 
 -- what stands after the first word
 abbrev pub past_word : List ℕ → List ℕ
-past_word text = drop (length_to Space (from_word text)) (from_word text)
+past_word text = drop (position_or_len is_space (from_word text)) (from_word text)
 
 -- a word begins where a space, or nothing, is followed by something else
 abbrev pub begins_word : Bool → ℕ → Bool

@@ -2,10 +2,6 @@
 use Rattle.std.specs.Prelude.{ℕ, ◌+◌, ◌-◌, ◌*◌, min, cond, ◌&&◌, List, [], ◌∷◌, length, Some, None, Option, ◌==◌, nat_le}
 use Rattle.std.specs.Option.{option_map}
 
--- the value of a digit, 0 to 9
-abbrev pub digit_of : ℕ → Option ℕ
-digit_of c = cond (nat_le 48 c && nat_le c 57) (Some (c - 48)) None
-
 -- the number that digits write behind those of n
 abbrev pub digits_after : ℕ → List ℕ → Option ℕ
 digits_after n [] = Some n

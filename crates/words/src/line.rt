@@ -1,19 +1,12 @@
 // A line, cut into its words.
 ghost use Rattle.std.specs.Prelude.{◌≡◌, ◌≤◌, length};
-ghost use Rattle.words.specs.Cuts.{is_space, is_mark, begins_word, length_to, before_comment, first_word, past_word, word_count};
+ghost use Rattle.std.specs.List.{prefix_len, position_or_len};
+ghost use Rattle.words.specs.Cuts.{is_space, begins_comment, before_comment, first_word, past_word, word_count};
 
 // What has not been read yet of a line.
 #[derive(Clone, Copy)]
 pub struct Words<'a> {
     pub rest: &'a [u8],
-}
-
-// What a text is read up to.
-#[derive(Clone, Copy)]
-pub(crate) enum Mark {
-    Space,
-    NoSpace,
-    Comment,
 }
 
 fn is_space(c: u8) -> bool
@@ -22,33 +15,29 @@ fn is_space(c: u8) -> bool
     matches!(c, b' ' | b'\t' | b'\r')
 }
 
-fn is_mark(mark: Mark, c: u8) -> bool
-    ensures { result ≡ is_mark mark c }
+// How many characters stand before the first number sign. Here and twice below a chain of one line: one function for them
+// would be told the test, which is all that they say.
+fn comment_start(line: &[u8]) -> usize
+    ensures value { result ≡ position_or_len begins_comment line.now }
+    ensures bound { result ≤ length line.now }
 {
-    match mark {
-        Mark::Space => is_space(c),
-        Mark::NoSpace => !is_space(c),
-        Mark::Comment => c == b'#',
-    }
+    line.iter().take_while(|c| **c != b'#').count()
 }
 
-// How many characters stand before the first mark.
-fn length_to(mark: Mark, text: &[u8]) -> usize
-    ensures value { result ≡ length_to mark text.now }
+// How many spaces a text begins with.
+fn space_len(text: &[u8]) -> usize
+    ensures value { result ≡ prefix_len is_space text.now }
     ensures bound { result ≤ length text.now }
 {
-    for i in 0..text.len() {
-        if is_mark(mark, text[i]) {
-            return i;
-        }
-    }
-    text.len()
+    text.iter().take_while(|c| is_space(**c)).count()
 }
 
-fn begins_word(after_space: bool, c: u8) -> bool
-    ensures { result ≡ begins_word after_space c }
+// How many characters stand before the first space.
+fn word_len(text: &[u8]) -> usize
+    ensures value { result ≡ position_or_len is_space text.now }
+    ensures bound { result ≤ length text.now }
 {
-    after_space && !is_space(c)
+    text.iter().take_while(|c| !is_space(**c)).count()
 }
 
 impl<'a> Words<'a> {
@@ -57,7 +46,7 @@ impl<'a> Words<'a> {
         ensures { result.rest.now ≡ before_comment line.now }
     {
         Words {
-            rest: &line[0..length_to(Mark::Comment, line)],
+            rest: &line[..comment_start(line)],
         }
     }
 
@@ -65,24 +54,19 @@ impl<'a> Words<'a> {
     pub fn count(&self) -> usize
         ensures { result ≡ word_count self.now.rest.now }
     {
-        let mut count: usize = 0;
-        let mut after_space = true;
-        for c in self.rest {
-            if begins_word(after_space, *c) {
-                count += 1;
-            }
-            after_space = is_space(*c);
-        }
-        count
+        self.rest
+            .split(|c| is_space(*c))
+            .filter(|word| !word.is_empty())
+            .count()
     }
 
-    // Takes the next word, which is empty where none is left.
+    // Takes the next word, which is empty where none is left: no Option, since no command has an empty name.
     pub fn take(&mut self) -> &'a [u8]
         ensures word { result.now ≡ first_word self.old.rest.now }
         ensures rest { self.new.rest.now ≡ past_word self.old.rest.now }
     {
-        let (_, text) = self.rest.split_at(length_to(Mark::NoSpace, self.rest));
-        let (word, rest) = text.split_at(length_to(Mark::Space, text));
+        let text = &self.rest[space_len(self.rest)..];
+        let (word, rest) = text.split_at(word_len(text));
         self.rest = rest;
         word
     }

@@ -9,8 +9,5 @@ returns-in-Blank c = λ characters e. verdict_of characters (c.in-Blank.ensures 
 pub returns-in-NotHex : goal.returns-in-NotHex
 returns-in-NotHex c = λ characters e. verdict_of characters (c.in-NotHex.ensures ∙ e)
 
-pub returns-in-Ok : goal.returns-in-Ok
-returns-in-Ok c = λ characters e. ap read c.in-Ok.ensures.value ∙ verdict_of characters (c.in-Octets.ensures ∙ e)
-
-pub returns-in-Err : goal.returns-in-Err
-returns-in-Err c = λ characters e. ap read c.in-Err.ensures.value ∙ verdict_of characters (c.in-Octets.ensures ∙ e)
+pub returns-in-Octets : goal.returns-in-Octets
+returns-in-Octets c = λ characters e. ap read c.read.ensures.value ∙ verdict_of characters (c.in-Octets.ensures ∙ e)

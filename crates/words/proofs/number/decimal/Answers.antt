@@ -5,5 +5,6 @@ use Rattle.words.proofs.number.decimal.Goals as goal
 
 pub loop-c-preserved : goal.loop-c-preserved
 loop-c-preserved c =
-    let value : c.saturating_add-value.result ≡ capped (10 * c.loop-c.value + c.in-Some.digit) = omega arith in
-    (digit_on _ _ c.loop-c.value c.in-Some.digit _ c.loop-c-test.true c.in-Some.ensures value ∙ c.loop-c.invariant.0, omega (arith, value))
+    let read = c.in_ok-digit.ensures.value in
+    let value : c.saturating_add-value.result ≡ capped (10 * c.loop-c.value + c.in_ok-digit.digit) = omega arith in
+    (digit_on _ _ c.loop-c.value c.in_ok-digit.digit _ c.loop-c-test.true (omega (arith, rw c.from.ensures at read.0)) (rw c.from.ensures at read.1) value ∙ c.loop-c.invariant.0, omega (arith, value))

@@ -1,29 +1,30 @@
-use Rattle.std.proofs.Common.{vec_items}
-use Rattle.clash.specs.Clashes.{count, same_sender, same_number, other_kind}
-use Rattle.clash.specs.Indexes.{keys}
-use Rattle.clash.specs.Keys.{key_octets}
-use Rattle.clash.specs.Notes.{sender_key, number_key, seen_in}
-use Rattle.clash.specs.Places.{last_below, spot}
+use Rattle.std.proofs.Common.{◌+◌, cond, length, Some, refl, ap, ◌∙◌, arith}
+use Rattle.std.specs.Str.{bytes_eq}
+use Rattle.clash.specs.Clashes.{frame_at, same_sender}
+use Rattle.clash.specs.Notes.{number_eq, number_of}
 use Rattle.clash.specs.Sightings.{shown}
-use Rattle.clash.specs.declared.noted.Noted.{Noted}
-use Rattle.clash.proofs.Counts.{count_same}
-use Rattle.clash.proofs.Lasts.{last_same}
-use Rattle.clash.proofs.Records.{noted_len, noted_push, seen_push, keys_follow}
+use Rattle.clash.proofs.Beside.{as_many}
+use Rattle.clash.proofs.Counts.{count_le}
+use Rattle.clash.proofs.Records.{kept_same, kept_push}
 use Rattle.clash.proofs.history.History.note.Goals as goal
 
-pub invariant_of-self : goal.invariant_of-self
-invariant_of-self c =
-    let h = c.reserve.new.self in
-    let r = c.described-noted.result in
-    let d = c.described-noted.ensures in
+pub invariant_of-self-in_err-reserve-2 : goal.invariant_of-self-in_err-reserve-2
+invariant_of-self-in_err-reserve-2 c = kept_same c.self.invariant refl c.reserve.ensures.entries.2 c.reserve-2.ensures.entries.2
+
+pub invariant_of-self-in_err-push : goal.invariant_of-self-in_err-push
+invariant_of-self-in_err-push c = kept_same c.self.invariant c.in_err-push.ensures.items c.reserve.ensures.entries.2 c.reserve-2.ensures.entries.2
+
+pub overflow_add-noted : goal.overflow_add-noted
+overflow_add-noted c =
+    let es = c.args.self.now in
     let s = shown c.args.s in
-    let ns = vec_items h.noted in
-    let ns' = vec_items c.push_reserved.new.self in
-    let e = c.push_reserved.ensures.items in
-    let es = seen_push ns ns' r s e d.frame in
-    let ranked = noted_push count count_same same_sender (λ (n : Noted). n.rank) ns ns' r s e d.frame d.rank h.ranked in
-    let preceded = noted_push last_below last_same same_number (λ (n : Noted). spot n.previous) ns ns' r s e d.frame d.previous h.preceded in
-    let differed = noted_push last_below last_same other_kind (λ (n : Noted). spot n.other) ns ns' r s e d.frame d.other h.differed in
-    let sent = keys_follow sender_key (keys h.senders) (keys c.add.new.self) (seen_in ns) (seen_in ns') (key_octets c.sender_key.result) s h.sent c.add.ensures c.sender_key.ensures es in
-    let numbered = keys_follow number_key (keys h.numbers) (keys c.add-2.new.self) (seen_in ns) (seen_in ns') (key_octets c.number_key.result) s h.numbered c.add-2.ensures c.number_key.ensures es in
-    record { long = noted_len c.push_reserved.new.self; ranked = ranked; preceded = preceded; differed = differed; sent = sent; numbered = numbered }
+    let ns = c.self.inside.noted in
+    let few = count_le (λ i. same_sender s (frame_at es i)) (length es) in
+    omega (arith, few, c.described-noted.ensures.rank, as_many ns.items es c.self.view_is, ns.ok.0, ns.ok.1, ns.small)
+
+pub invariant_of-self-2 : goal.invariant_of-self-2
+invariant_of-self-2 c =
+    let s = shown c.args.s in
+    kept_push c.args.self.now s c.described-noted.result _ _ c.self.invariant c.self.view_is c.described-noted.ensures c.in_ok-push.ensures.items refl (c.len-place.ensures ∙ c.self.inside.noted.ok.0)
+    (λ k. c.in_ok-insert.ensures.updates.0 k ∙ ap (cond (bytes_eq s.sender k) (Some (c.described-noted.result.rank + 1))) (c.reserve.ensures.entries.2 k))
+    (λ k. c.in_ok-insert-2.ensures.updates.0 k ∙ ap (cond (number_eq (number_of s) k) (Some c.len-place.result)) (c.reserve-2.ensures.entries.2 k))
