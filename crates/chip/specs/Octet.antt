@@ -1,6 +1,7 @@
 -- The octet of the plain chip: the state of port 1 in its low four bits, that of port 2 in the others.
 use Rattle.std.specs.Prelude.{ℕ, zero, suc, ◌/◌, ◌%◌, [], None, refl}
 use Rattle.std.proofs.Math.Nat.{le_refl}
+use Rattle.std.specs.List.{IsDistinct}
 use Rattle.switch.specs.declared.port.PortState.{PortState}
 use Rattle.switch.specs.declared.port.PortState.TheVariants.{Disabled, Blocked, Forwarding}
 use Rattle.switch.specs.Meanings.{Meaning, Sound}
@@ -17,4 +18,5 @@ chip_meaning n = record { first = state_of (n % 16); second = state_of (n / 16);
 
 -- what every kind owes holds of it
 pub chip_sound : (n : ℕ) → Sound 0 (chip_meaning n)
-chip_sound n = record { few = le_refl 0; real = λ a h. refl; listed = ∣ ([], record { once = refl; many = refl; all = λ a. refl }) ∣₁ }
+unfolding IsDistinct
+chip_sound n = record { few = le_refl 0; real = λ a h. refl; listed = ∣ ([], record { once = tt; many = refl; all = λ a. refl }) ∣₁ }

@@ -2,7 +2,6 @@
 #![tactic(auto)]
 
 ghost use Rattle.std.specs.Prelude.{◌≡◌};
-ghost use Rattle.switch.specs.Ports.{state_number};
 ghost use Rattle.chip.specs.Octet.{state_of, chip_meaning, chip_sound};
 
 use refusal::Refusal;
@@ -10,21 +9,13 @@ use switch::{Address, Port, PortState, Switch};
 
 const SIZE: usize = 0;
 
+// The chip has one octet for both states: port 1 in its low four bits, port 2 in the others.
 #[derive(Clone, Copy)]
 pub struct PlainChip {
     states: u8,
 }
 
-fn number_of(state: PortState) -> u8
-    ensures { result ≡ state_number state }
-{
-    match state {
-        PortState::Disabled => 0,
-        PortState::Blocked => 1,
-        PortState::Forwarding => 2,
-    }
-}
-
+// No `TryFrom`: the octet may hold any number, and reading it cannot fail.
 fn state_of(number: u8) -> PortState
     ensures { result ≡ state_of number }
 {
@@ -46,10 +37,11 @@ impl Switch for PlainChip {
         PlainChip { states: 0x11 }
     }
 
+    // an arm for each port: an index or a shift by the port would say less
     fn set_port(&mut self, port: Port, state: PortState) {
         match port {
-            Port::One => self.states = self.states / 16 * 16 + number_of(state),
-            Port::Two => self.states = self.states % 16 + 16 * number_of(state),
+            Port::One => self.states = self.states / 16 * 16 + state as u8,
+            Port::Two => self.states = self.states % 16 + 16 * state as u8,
         }
     }
 

@@ -1,5 +1,7 @@
 -- What the measured loops do to a switch, and the sum of all that it answers.
-use Rattle.std.specs.Prelude.{ℕ, zero, suc, ◌+◌, ◌*◌, ◌%◌, List, [], ◌∷◌, Some, None, Ok, Err, Option, Result}
+use Rattle.std.specs.Prelude.{ℕ, ◌+◌, ◌*◌, ◌%◌, List, Some, None, Ok, Err, Option, Result}
+use Rattle.std.specs.List.{fold}
+use Rattle.std.specs.Fn.{iterate}
 use Rattle.refusal.specs.declared.Refusal.{Refusal}
 use Rattle.refusal.specs.Refusals.{number_of}
 use Rattle.switch.specs.declared.port.Port.{Port}
@@ -24,8 +26,7 @@ learn_number (Err r) = number_of r
 
 -- the sum after looking up each address of a list
 abbrev pub looked_up : Meaning → List (List ℕ) → ℕ → ℕ
-looked_up m [] sum = sum
-looked_up m (a ∷ rest) sum = looked_up m rest (summed sum (port_answer (m.known a)))
+looked_up m list sum = fold (λ s a. summed s (port_answer (m.known a))) sum list
 
 -- a switch, and the sum of its answers so far
 pub record Run : Type 0 where
@@ -37,18 +38,12 @@ abbrev pub looked_up_then : List (List ℕ) → Run → ℕ
 looked_up_then list r = looked_up r.switch list r.sum
 
 -- after learning an address at a port, where the switch has room for k
-abbrev pub learned_one : ℕ → Port → List ℕ → Run → Run
-learned_one k p a r = record { switch = learned k a p r.switch; sum = summed r.sum (learn_number (learn_answer k a r.switch)) }
+abbrev pub learned_one : ℕ → Port → Run → List ℕ → Run
+learned_one k p r a = record { switch = learned k a p r.switch; sum = summed r.sum (learn_number (learn_answer k a r.switch)) }
 
 -- after learning each address of a list
 abbrev pub learned_all : ℕ → Port → List (List ℕ) → Run → Run
-learned_all k p [] r = r
-learned_all k p (a ∷ rest) r = learned_all k p rest (learned_one k p a r)
-
--- after n times
-abbrev pub again : {A : Type 0} → ℕ → (A → A) → A → A
-again zero f x = x
-again (suc n) f x = f (again n f x)
+learned_all k p list r = fold (learned_one k p) r list
 
 -- a round: each address is learned at port 2, and then each at port 1
 abbrev pub both_ways : ℕ → List (List ℕ) → Run → Run
@@ -60,8 +55,8 @@ filled_table list = (learned_all 64 One list (record { switch = fresh; sum = 0 }
 
 -- the sum of n rounds of looking up
 abbrev pub look_up_sum : List (List ℕ) → List (List ℕ) → ℕ → ℕ
-look_up_sum list asked n = again n (looked_up (filled_table list) asked) 0
+look_up_sum list asked n = iterate (looked_up (filled_table list) asked) n 0
 
 -- the sum of n rounds of learning, and of looking all up afterwards
 abbrev pub learn_sum : List (List ℕ) → List (List ℕ) → ℕ → ℕ
-learn_sum list heard n = looked_up_then heard (again n (both_ways 64 heard) (record { switch = filled_table list; sum = 0 }))
+learn_sum list heard n = looked_up_then heard (iterate (both_ways 64 heard) n (record { switch = filled_table list; sum = 0 }))

@@ -2,9 +2,10 @@
 #![tactic(auto)]
 
 ghost use Rattle.std.specs.Prelude.{◌≡◌};
+ghost use Rattle.std.specs.Fn.{iterate};
 ghost use Rattle.switch.specs.Meanings.{fresh};
 ghost use Rattle.switch.specs.declared.port.Port.TheVariants.{One};
-ghost use Rattle.measure_switch.specs.Loops.{summed, port_answer, learn_number, looked_up, learned_all, again, both_ways, look_up_sum, learn_sum};
+ghost use Rattle.measure_switch.specs.Loops.{summed, port_answer, learn_number, looked_up, learned_all, both_ways, look_up_sum, learn_sum};
 
 use refusal::Refusal;
 use switch::{Address, Port, Switch};
@@ -16,41 +17,39 @@ fn sum_with(sum: u32, answer: u32) -> u32
     sum.wrapping_mul(31).wrapping_add(answer)
 }
 
+// What is summed up for an answer is a number, for C.
 fn port_answer(port: Option<Port>) -> u32
     ensures { result ≡ port_answer port }
 {
-    match port {
-        None => 0,
-        Some(Port::One) => 1,
-        Some(Port::Two) => 2,
-    }
+    port.map_or(0, |port| port as u32)
 }
 
 fn learn_answer(answer: Result<(), Refusal>) -> u32
     ensures { result ≡ learn_number answer }
 {
-    match answer {
-        Ok(()) => 0,
-        Err(refusal) => u32::from(refusal.number()),
-    }
+    answer
+        .err()
+        .map_or(0, |refusal| u32::from(refusal.number()))
 }
 
 fn look_up_all<S: Switch>(switch: &S, asked: &[[u8; 6]], start: u32) -> u32
     ensures { result ≡ looked_up (S.Switch.meaning switch.now) asked.now start }
 {
-    let mut sum = start;
-    for octets in asked {
-        sum = sum_with(sum, port_answer(switch.port_of(Address::of(*octets))));
-    }
-    sum
+    asked.iter().fold(start, |sum, octets| {
+        sum_with(sum, port_answer(switch.port_of(Address::from(*octets))))
+    })
 }
 
+// A loop and no fold: of a closure that changes the switch no fact would be left.
 fn learn_all<S: Switch>(switch: &mut S, heard: &[[u8; 6]], port: Port, start: u32) -> u32
     ensures { record { switch = S.Switch.meaning switch.new; sum = result } ≡ learned_all S.Switch.limit port heard.now (record { switch = S.Switch.meaning switch.old; sum = start }) }
 {
     let mut sum = start;
     for octets in heard {
-        sum = sum_with(sum, learn_answer(switch.learn(Address::of(*octets), port)));
+        sum = sum_with(
+            sum,
+            learn_answer(switch.learn(Address::from(*octets), port)),
+        );
     }
     sum
 }
@@ -64,8 +63,9 @@ fn filled<S: Switch>(known: &[[u8; 6]]) -> S
     switch
 }
 
+#[tactic(auto, using(crate::proofs::Rounds::iterate_more))]
 fn look_up_rounds<S: Switch>(switch: &S, asked: &[[u8; 6]], rounds: u32) -> u32
-    ensures { result ≡ again rounds (looked_up (S.Switch.meaning switch.now) asked.now) 0 }
+    ensures { result ≡ iterate (looked_up (S.Switch.meaning switch.now) asked.now) rounds 0 }
 {
     let mut sum = 0;
     for round in 0..rounds {
@@ -74,8 +74,11 @@ fn look_up_rounds<S: Switch>(switch: &S, asked: &[[u8; 6]], rounds: u32) -> u32
     sum
 }
 
+// Beside `look_up_rounds`: the contract of one loop that takes its step would have to carry what the step does, and be longer
+// than the two loops.
+#[tactic(auto, using(crate::proofs::Rounds::iterate_more))]
 fn learn_rounds<S: Switch>(switch: &mut S, heard: &[[u8; 6]], rounds: u32) -> u32
-    ensures { record { switch = S.Switch.meaning switch.new; sum = result } ≡ again rounds (both_ways S.Switch.limit heard.now) (record { switch = S.Switch.meaning switch.old; sum = 0 }) }
+    ensures { record { switch = S.Switch.meaning switch.new; sum = result } ≡ iterate (both_ways S.Switch.limit heard.now) rounds (record { switch = S.Switch.meaning switch.old; sum = 0 }) }
 {
     let mut sum = 0;
     for round in 0..rounds {

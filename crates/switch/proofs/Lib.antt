@@ -1,4 +1,1 @@
-pub mod Same
-mod Six
-mod Different
-mod Learning
+mod Counting

@@ -1,10 +1,12 @@
 -- What the calls on a switch mean in plain words, for every kind.
-use Rattle.std.specs.Prelude.{◌≡◌, ℕ, ◌≤◌, true, false, List, length, Some, None, Ok, Err, Result}
+use Rattle.std.specs.Prelude.{◌≡◌, ℕ, ◌≤◌, true, false, List, length, Some, None, Ok, Err, Result, is_some}
+use Rattle.std.specs.List.{IsDistinct}
+use Rattle.std.specs.Set.{is_member}
 use Rattle.std.specs.Str.{bytes_eq}
 use Rattle.refusal.specs.declared.Refusal.{Refusal}
 use Rattle.switch.specs.declared.port.Port.{Port}
-use Rattle.switch.specs.Addresses.{is_address, among, apart}
-use Rattle.switch.specs.Meanings.{Meaning, Sound, state_at, is_some}
+use Rattle.switch.specs.Addresses.{is_address}
+use Rattle.switch.specs.Meanings.{Meaning, Sound, state_at}
 
 -- both ports are as before
 abbrev pub SamePorts : Meaning → Meaning → Type 0
@@ -22,7 +24,7 @@ Gone m n = ((a : List ℕ) → n.known a ≡ None) × SamePorts m n
 
 -- never are more than k addresses known: a list of different ones, all of them known, has no more than k
 abbrev pub WithinRoom : ℕ → Meaning → Type 0
-WithinRoom k m = (xs : List (List ℕ)) → apart xs ≡ true → ((a : List ℕ) → among a xs ≡ true → is_some (m.known a) ≡ true) → length xs ≤ k
+WithinRoom k m = (xs : List (List ℕ)) → IsDistinct bytes_eq xs → ((a : List ℕ) → is_member bytes_eq xs a ≡ true → is_some (m.known a) ≡ true) → length xs ≤ k
 
 -- two switches that answer alike for every port and every address have equal meanings, of whatever kinds they are
 abbrev pub SameAnswers : Type 0

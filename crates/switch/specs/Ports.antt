@@ -1,5 +1,5 @@
 -- The two ring ports, and what is asked of a port.
-use Rattle.std.specs.Prelude.{ℕ, Bool, true, false}
+use Rattle.std.specs.Prelude.{ℕ, Bool, true, false, List, codes}
 use Rattle.switch.specs.declared.port.Port.{Port}
 use Rattle.switch.specs.declared.port.Port.TheVariants.{One, Two}
 use Rattle.switch.specs.declared.port.PortState.{PortState}
@@ -9,12 +9,6 @@ use Rattle.switch.specs.declared.port.PortState.TheVariants.{Disabled, Blocked, 
 abbrev pub port_number : Port → ℕ
 port_number One = 1
 port_number Two = 2
-
--- the number of a state
-abbrev pub state_number : PortState → ℕ
-state_number Disabled = 0
-state_number Blocked = 1
-state_number Forwarding = 2
 
 abbrev pub other : Port → Port
 other One = Two
@@ -30,3 +24,14 @@ abbrev pub is_forwarding : PortState → Bool
 is_forwarding Disabled = false
 is_forwarding Blocked = false
 is_forwarding Forwarding = true
+
+-- a port as it is printed, in ASCII
+abbrev pub port_text : Port → List ℕ
+port_text One = codes "1"
+port_text Two = codes "2"
+
+-- a state as it is printed, in ASCII
+abbrev pub state_text : PortState → List ℕ
+state_text Disabled = codes "DISABLED"
+state_text Blocked = codes "BLOCKED"
+state_text Forwarding = codes "FORWARDING"

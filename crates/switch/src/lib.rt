@@ -2,13 +2,9 @@
 #![tactic(auto)]
 
 mod address;
-mod data;
 mod port;
 mod switching;
-mod told;
 
 pub use address::Address;
-pub use data::relay;
 pub use port::{Port, PortState};
 pub use switching::Switch;
-pub use told::{forget, note, room};

@@ -7,7 +7,7 @@ mod tests {
     use refusal::Refusal;
     use std::process::Abort;
     use std::test::Fail;
-    use switch::{Address, Port, PortState, Switch, relay};
+    use switch::{Address, Port, PortState, Switch};
     use table::TableSwitch;
     use turned::Turned;
 
@@ -18,11 +18,11 @@ mod tests {
     ];
 
     fn station(number: u8) -> Address {
-        Address::of([2, 0, 0, 0, 0, number])
+        Address::from([2, 0, 0, 0, 0, number])
     }
 
     fn group() -> Address {
-        Address::of([3, 0, 0, 0, 0, 0])
+        Address::from([3, 0, 0, 0, 0, 0])
     }
 
     fn check_refused(rt: &impl Abort, answer: Result<(), Refusal>, number: u8) -> Result<(), Fail> {
@@ -168,6 +168,16 @@ mod tests {
         );
     }
 
+    #[test]
+    fn printed(rt: HostRuntime) -> Result<(), Fail> {
+        let [disabled, blocked, forwarding] = STATES;
+        let ports = format!(in rt.alloc(); "{} {}", Port::One, Port::Two)?;
+        let states = format!(in rt.alloc(); "{disabled} {blocked} {forwarding}")?;
+        assert_eq!(rt; ports.as_str(), "1 2");
+        assert_eq!(rt; states.as_str(), "DISABLED BLOCKED FORWARDING");
+        Ok(())
+    }
+
     fn check_leaves<S: Switch>(
         rt: &impl Abort,
         switch: &mut S,
@@ -176,7 +186,7 @@ mod tests {
         came_by: Port,
         by: Option<Port>,
     ) {
-        assert_eq!(rt; relay(switch, source, destination, came_by), by);
+        assert_eq!(rt; switch.relay(source, destination, came_by), by);
     }
 
     // A frame of a new station in each pair of port states, and what is learned of it.
@@ -188,7 +198,7 @@ mod tests {
                 switch.set_port(came_by.other(), other_state);
                 let comes = came_state == PortState::Forwarding;
                 let leaves = comes && other_state == PortState::Forwarding;
-                let by = if leaves { Some(came_by.other()) } else { None };
+                let by = leaves.then_some(came_by.other());
                 check_leaves(rt, &mut switch, station(1), station(2), came_by, by);
                 check_known(rt, &switch, station(1), if comes { learned } else { None });
             }

@@ -1,7 +1,8 @@
-// A switch with a table of 64 entries, of which the first `len` are in use.
-ghost use Rattle.std.specs.Prelude.{◌≡◌, ◌≤◌, true, length, take};
-ghost use Rattle.switch.specs.Addresses.{apart};
-ghost use Rattle.table.specs.Entries.{table_meaning, addresses, are_addresses, Place};
+// A switch with a table of 64 entries, of which the first `len` are in use. An `ArrayVec` in their place could not be copied.
+ghost use Rattle.std.specs.Prelude.{◌≡◌, ◌≤◌, length, take, position};
+ghost use Rattle.std.specs.List.{IsDistinct, IsDistinct-prop};
+ghost use Rattle.std.specs.Str.{bytes_eq};
+ghost use Rattle.table.specs.Entries.{table_meaning, addresses, is_for};
 ghost use Rattle.table.specs.Owed.{table_sound};
 
 use crate::entry::Entry;
@@ -18,21 +19,17 @@ pub struct TableSwitch {
     len: usize,
     ghost whole: { length entries ≡ 64 },
     ghost few: { len ≤ 64 },
-    ghost real: { are_addresses (addresses (take len entries)) ≡ true },
-    ghost once: { apart (addresses (take len entries)) ≡ true },
+    ghost once: { IsDistinct bytes_eq (addresses (take len entries)) } by { IsDistinct-prop bytes_eq (addresses (take len entries)) },
 }
 
 impl TableSwitch {
     // The place of the entry of an address, if it is known.
-    fn place_of(&self, address: &Address) -> Option<usize>
-        ensures { Place address.now.octets (take self.now.len self.now.entries) result }
+    fn place_of(&self, address: Address) -> Option<usize>
+        ensures { result ≡ position (is_for address.octets) (take self.now.len self.now.entries) }
     {
-        for i in 0..self.len {
-            if self.entries[i].is_for(address) {
-                return Some(i);
-            }
-        }
-        None
+        self.entries[..self.len]
+            .iter()
+            .position(|entry| entry.address == address)
     }
 }
 
@@ -41,11 +38,12 @@ impl Switch for TableSwitch {
 
     ghost limit = { 64 };
 
-    ghost sound = { λ s. table_sound s.first s.second s.entries s.len s.whole s.few s.real s.once };
+    ghost sound = { λ s. table_sound s.first s.second s.entries s.len s.whole s.few s.once };
 
+    #[tactic(auto, using(crate::proofs::Tables::none_twice))]
     fn new() -> Self {
         let unused = Entry {
-            address: [0; 6],
+            address: Address::from([0; 6]),
             port: Port::One,
         };
         TableSwitch {
@@ -56,6 +54,7 @@ impl Switch for TableSwitch {
         }
     }
 
+    // an arm for each port: an array indexed by the port would say less
     fn set_port(&mut self, port: Port, state: PortState) {
         match port {
             Port::One => self.first = state,
@@ -67,21 +66,19 @@ impl Switch for TableSwitch {
         if address.is_group() {
             return Err(Refusal::GroupAddress);
         }
-        if let Some(i) = self.place_of(&address) {
-            self.entries[i].hear(port);
+        if let Some(place) = self.place_of(address) {
+            self.entries[place].port = port;
             return Ok(());
         }
         if self.len == SIZE {
             return Err(Refusal::TableFull);
         }
-        self.entries[self.len] = Entry {
-            address: address.octets(),
-            port,
-        };
+        self.entries[self.len] = Entry { address, port };
         self.len += 1;
         Ok(())
     }
 
+    #[tactic(auto, using(crate::proofs::Tables::none_twice))]
     fn clear(&mut self) {
         self.len = 0;
     }
@@ -93,11 +90,12 @@ impl Switch for TableSwitch {
         }
     }
 
+    // the entry itself, so that no place has to be looked up again
     fn port_of(&self, address: Address) -> Option<Port> {
-        match self.place_of(&address) {
-            Some(i) => Some(self.entries[i].port),
-            None => None,
-        }
+        self.entries[..self.len]
+            .iter()
+            .find(|entry| entry.address == address)
+            .map(|entry| entry.port)
     }
 
     fn capacity(&self) -> usize {

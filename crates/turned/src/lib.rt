@@ -14,6 +14,7 @@ pub struct Turned<S> {
 }
 
 impl<S> Turned<S> {
+    #[tactic(auto, using(crate::specs::Exchange::turned_twice))]
     pub fn of(inner: S) -> Self
         ensures holds { result.inner ≡ inner }
         ensures twice { TurnedTwice }
@@ -50,10 +51,7 @@ impl<S: Switch> Switch for Turned<S> {
     }
 
     fn port_of(&self, address: Address) -> Option<Port> {
-        match self.inner.port_of(address) {
-            Some(port) => Some(port.other()),
-            None => None,
-        }
+        self.inner.port_of(address).map(Port::other)
     }
 
     fn capacity(&self) -> usize {

@@ -1,8 +1,0 @@
-use Rattle.switch.proofs.Learning.{within_room, same_answers}
-use Rattle.switch.proofs.told.room.Goals as goal
-
-pub returns-clause-within : goal.returns-clause-within
-returns-clause-within g c = rw c.capacity.ensures (within_room _ _ (g.met.S.Switch.sound c.args.switch.now))
-
-pub returns-clause-alike : goal.returns-clause-alike
-returns-clause-alike g c = same_answers
