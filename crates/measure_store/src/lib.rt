@@ -7,10 +7,9 @@ use store::store::Store;
 
 // A sum of octets that tells their order.
 fn mix(sum: u64, octets: &[u8]) -> u64 {
-    match octets.first() {
-        Some(octet) => sum.wrapping_mul(31).wrapping_add(u64::from(*octet)),
-        None => sum,
-    }
+    octets.first().map_or(sum, |octet| {
+        sum.wrapping_mul(31).wrapping_add(u64::from(*octet))
+    })
 }
 
 // One frame is put in, and the first is taken and dropped.
@@ -24,7 +23,7 @@ fn round(store: &mut Store, link: usize, octets: &[u8], sum: u64) -> Result<u64,
     }
 }
 
-// The first frame is taken and passed on to the same queue.
+// The first frame is taken and passed on to the same queue. Beside `round`: each spends its frame by another call.
 fn turn(store: &mut Store, link: usize, sum: u64) -> Result<u64, Refusal> {
     let frame = store.take(link, 1)?;
     let sum = look(store, &frame, sum);
@@ -35,20 +34,16 @@ fn turn(store: &mut Store, link: usize, sum: u64) -> Result<u64, Refusal> {
 }
 
 fn look(store: &Store, frame: &InHand, sum: u64) -> u64 {
-    match store.octets(frame) {
-        Ok(octets) => mix(sum, octets),
-        Err(_) => sum,
-    }
+    store.octets(frame).map_or(sum, |octets| mix(sum, octets))
 }
 
 // The frame of a number among frames of 60 octets, one behind the other.
 fn nth(frames: &[u8], number: usize) -> &[u8] {
-    match frames.get(60 * (number % 128)..60 * (number % 128) + 60) {
-        Some(octets) => octets,
-        None => frames,
-    }
+    let at = 60 * (number % 128);
+    frames.get(at..at + 60).unwrap_or(frames)
 }
 
+// The frames are told by number, as in the rounds.
 fn filled(links: usize, link: usize, waiting: usize, frames: &[u8]) -> Result<Store, Refusal> {
     let mut store = Store::new(1, links)?;
     for number in 0..waiting {
@@ -57,8 +52,21 @@ fn filled(links: usize, link: usize, waiting: usize, frames: &[u8]) -> Result<St
     Ok(store)
 }
 
-// Rounds of put, take and drop, or turns of take and pass on, with frames waiting.
-fn work(
+// Rounds of put, take and drop.
+fn rounds(store: &mut Store, link: usize, count: usize, frames: &[u8]) -> Result<u64, Refusal> {
+    (0..count).try_fold(
+        0,
+        |sum, number| round(store, link, nth(frames, number), sum),
+    )
+}
+
+// Turns of take and pass on.
+fn turns(store: &mut Store, link: usize, count: usize) -> Result<u64, Refusal> {
+    (0..count).try_fold(0, |sum, _| turn(store, link, sum))
+}
+
+// The flag is the C interface's.
+fn measured(
     pass: bool,
     links: usize,
     link: usize,
@@ -67,17 +75,14 @@ fn work(
     frames: &[u8],
 ) -> Result<u64, Refusal> {
     let mut store = filled(links, link, waiting, frames)?;
-    let mut sum = 0;
-    for number in 0..count {
-        sum = if pass {
-            turn(&mut store, link, sum)?
-        } else {
-            round(&mut store, link, nth(frames, number), sum)?
-        };
+    if pass {
+        turns(&mut store, link, count)
+    } else {
+        rounds(&mut store, link, count, frames)
     }
-    Ok(sum)
 }
 
+// What C asks for and gets: numbers, one by one, and 0 for a refusal.
 #[unsafe(no_mangle)]
 pub extern "C" fn store_work(
     pass: bool,
@@ -87,8 +92,5 @@ pub extern "C" fn store_work(
     count: usize,
     frames: &[u8],
 ) -> u64 {
-    match work(pass, links, link, waiting, count, frames) {
-        Ok(sum) => sum,
-        Err(_) => 0,
-    }
+    measured(pass, links, link, waiting, count, frames).unwrap_or(0)
 }

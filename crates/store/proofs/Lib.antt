@@ -3,6 +3,7 @@ pub mod Standing
 pub mod Moves
 pub mod Start
 pub mod Holdings
+pub mod Maps
 pub mod Views
 pub mod Lanes
 pub mod Taken

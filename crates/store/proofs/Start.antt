@@ -1,7 +1,12 @@
 -- A new store: every place stands in the free list.
-use Rattle.std.proofs.Common.{◌≡◌, ℕ, zero, suc, ◌+◌, ◌<◌, ◌≤◌, false, cond, ltb, ◌≢◌, List, [], ◌∷◌, get_or, set, replicate, refl, ap, arith}
+use Rattle.std.proofs.Common.{◌≡◌, ℕ, zero, suc, ◌+◌, ◌<◌, ◌≤◌, false, cond, ltb, ◌≢◌, List, [], ◌∷◌, length, get_or, set, replicate, refl, ap, inl, inr, arith}
 use Rattle.std.proofs.lemmas.Bool.Decides.{nat_tests}
-use Rattle.store.specs.Chains.{chain, list_of, last_or, standing, standing_in, OnceEach, EndAt, spots_of, up_from, every_place, all_free}
+use Rattle.std.proofs.lemmas.Bool.{cases_lt}
+use Rattle.std.proofs.lemmas.List.{get_or_past}
+use Rattle.std.proofs.lemmas.List.Sums.{sum_by-cons}
+use Rattle.store.specs.declared.chains.Lane.{Lane}
+use Rattle.store.specs.declared.chains.Spot.{Spot}
+use Rattle.store.specs.Chains.{no_lane, no_spot, lane_at, spot_at, chain, list_of, last_or, standing, standing_in, OnceEach, EndAt, spots_of, held_in, up_from, every_place, all_free}
 use Rattle.store.specs.Counting.{change, count, one}
 use Rattle.store.proofs.Standing.{sum_none, sum_change, change_there}
 use Rattle.store.proofs.Moves.{spots_same}
@@ -14,9 +19,13 @@ last_up : (t h k : ℕ) → last_or t (up_from h (suc k)) ≡ h + k
 last_up t h zero = omega arith
 last_up t h (suc k) = omega (arith, last_up h (h + 1) k)
 
-pub chain_up : (next : List ℕ) (n h k : ℕ) → ((i : ℕ) → i < n → get_or next i 0 ≡ i + 1) → h + k ≤ n → chain next h (suc k) ≡ up_from h (suc k)
-chain_up next n h zero e l = refl
-chain_up next n h (suc k) e l = ap (λ (xs : List ℕ). h ∷ xs) (rw (e h (omega arith)) (chain_up next n (h + 1) k e (omega arith)))
+-- each place leads to the one after it
+abbrev pub Up : List Spot → Type 0
+Up ps = (i : ℕ) → i < 128 → ((spot_at ps i).next ≡ i + 1) × ((spot_at ps i).held ≡ false)
+
+chain_up : (ps : List Spot) (h k : ℕ) → Up ps → h + k ≤ 127 → chain ps h (suc k) ≡ up_from h (suc k)
+chain_up ps h zero e l = refl
+chain_up ps h (suc k) e l = ap (λ (xs : List ℕ). h ∷ xs) (rw (e h (omega arith)).0 (chain_up ps (h + 1) k e (omega arith)))
 
 start_in : (n p k : ℕ) (xs : List ℕ) → 0 < n → count p xs ≡ k → standing_in n (record { lanes = change 0 xs (λ _. []); hand = λ _. false }) p ≡ k
 start_in n p k xs l e = omega (arith, sum_change n 0 (λ q. count p (change 0 xs (λ _. []) q)) (λ _. 0) (λ j ne. go j ne) l, sum_none n)
@@ -36,16 +45,34 @@ get_or-same zero j a = refl
 get_or-same (suc n) zero a = refl
 get_or-same (suc n) (suc j) a = get_or-same n j a
 
-module _ (next : List ℕ) (up : (i : ℕ) → i < 127 → get_or next i 0 ≡ i + 1) where
-  pub start_list : (j : ℕ) → list_of next (replicate 101 0) (set (replicate 101 0) 0 128) j ≡ change 0 every_place (λ _. []) j
+-- the list of the free places, and all lists
+abbrev pub first_lane : Lane
+first_lane = record { head = 0; tail = 127; len = 128 }
+
+abbrev pub first_lanes : List Lane
+first_lanes = set (replicate 101 no_lane) 0 first_lane
+
+module _ (ps : List Spot) (long : length ps ≡ 128) (up : Up ps) where
+  pub start_list : (j : ℕ) → list_of first_lanes ps j ≡ change 0 every_place (λ _. []) j
   unfolding every_place
-  start_list zero = chain_up next 127 0 127 up (omega arith)
-  start_list (suc j) = rw (get_or-same {A = ℕ} 100 j 0, change_there 0 (suc j) (up_from 0 128) (λ _. []) (λ d. absurd (omega arith)))
+  start_list zero = chain_up ps 0 127 up (omega arith)
+  start_list (suc j) = rw (get_or-same {A = Lane} 100 j no_lane, change_there 0 (suc j) (up_from 0 128) (λ _. []) (λ d. absurd (omega arith)))
 
-  pub start_after : spots_of next (replicate 101 0) (set (replicate 101 0) 0 128) (replicate 128 false) ≡ all_free
-  start_after = spots_same _ _ _ _ start_list (λ j. get_or-same 128 j false)
+  start_hand : (j : ℕ) → (spot_at ps j).held ≡ false
+  start_hand j = elim (cases_lt j 128) [ inl l ↦ (up j l).1 | inr g ↦ ap (λ (x : Spot). x.held) (get_or_past ps j no_spot (omega (arith, long))) ]
 
-  pub start_ends : EndAt all_free (λ q. get_or (set (replicate 101 0) 0 127) q 0)
+  pub start_after : spots_of first_lanes ps ≡ all_free
+  start_after = spots_same _ _ _ _ start_list start_hand
+
+  pub start_ends : EndAt all_free (λ q. (lane_at first_lanes q).tail)
   unfolding every_place
   start_ends zero = last_up 0 0 127
-  start_ends (suc j) = rw (get_or-same {A = ℕ} 100 j 0, change_there 0 (suc j) (up_from 0 128) (λ _. []) (λ d. absurd (omega arith)))
+  start_ends (suc j) = rw (get_or-same {A = Lane} 100 j no_lane, change_there 0 (suc j) (up_from 0 128) (λ _. []) (λ d. absurd (omega arith)))
+
+  -- nothing is in hand
+  pub start_held : held_in ps ≡ 0
+  start_held = none ps start_hand
+    where
+      none : (xs : List Spot) → ((j : ℕ) → (spot_at xs j).held ≡ false) → held_in xs ≡ 0
+      none [] e = refl
+      none (x ∷ xs) e = omega (arith, sum_by-cons (λ (y : Spot). one y.held) x xs, ap one (e 0), none xs (λ j. e (suc j)))

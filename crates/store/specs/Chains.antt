@@ -1,15 +1,31 @@
 -- The lists of places, led through one array of next places.
-use Rattle.std.specs.Prelude.{◌≡◌, ℕ, zero, suc, ◌+◌, Bool, true, false, List, [], ◌∷◌, ◌++◌, Some, None, sum_by, Option, nat_lt, slice_index, slice_index_or}
+use Rattle.std.specs.Prelude.{◌≡◌, ℕ, zero, suc, ◌+◌, Bool, true, false, List, [], ◌∷◌, ◌++◌, Some, None, sum_by, Option, nat_lt, slice_index_or}
+use Rattle.store.specs.declared.chains.Lane.{Lane}
+use Rattle.store.specs.declared.chains.Spot.{Spot}
 use Rattle.store.specs.Counting.{change, sum_to, one, count}
 
--- the k places met from h on
-abbrev pub chain : List ℕ → ℕ → ℕ → List ℕ
-chain next h zero = []
-chain next h (suc k) = h ∷ chain next (slice_index next h) k
+-- a list with nothing in it, and a place that is not in hand
+abbrev pub no_lane : Lane
+no_lane = record { head = 0; tail = 0; len = 0 }
 
--- list q
-abbrev pub list_of : List ℕ → List ℕ → List ℕ → ℕ → List ℕ
-list_of next heads lens q = chain next (slice_index heads q) (slice_index lens q)
+abbrev pub no_spot : Spot
+no_spot = record { next = 0; held = false }
+
+-- list q, and the place p
+abbrev pub lane_at : List Lane → ℕ → Lane
+lane_at ls q = slice_index_or ls q no_lane
+
+abbrev pub spot_at : List Spot → ℕ → Spot
+spot_at ps p = slice_index_or ps p no_spot
+
+-- the k places met from h on
+abbrev pub chain : List Spot → ℕ → ℕ → List ℕ
+chain ps h zero = []
+chain ps h (suc k) = h ∷ chain ps (spot_at ps h).next k
+
+-- the places in list q
+abbrev pub list_of : List Lane → List Spot → ℕ → List ℕ
+list_of ls ps q = chain ps (lane_at ls q).head (lane_at ls q).len
 
 -- the places in each list, and which are in hand
 pub record Spots : Type 0 where
@@ -17,8 +33,8 @@ pub record Spots : Type 0 where
   pub hand : ℕ → Bool
 
 -- as the arrays have them
-abbrev pub spots_of : List ℕ → List ℕ → List ℕ → List Bool → Spots
-spots_of next heads lens held = record { lanes = list_of next heads lens; hand = λ p. slice_index_or held p false }
+abbrev pub spots_of : List Lane → List Spot → Spots
+spots_of ls ps = record { lanes = list_of ls ps; hand = λ p. (spot_at ps p).held }
 
 -- how often p stands in the first n lists and in hand
 abbrev pub standing_in : ℕ → Spots → ℕ → ℕ
@@ -33,8 +49,8 @@ abbrev pub OnceEach : Spots → Type 0
 OnceEach s = (p : ℕ) → standing s p ≡ one (nat_lt p 128)
 
 -- so it is with the arrays
-abbrev pub Once : List ℕ → List ℕ → List ℕ → List Bool → Type 0
-Once next heads lens held = OnceEach (spots_of next heads lens held)
+abbrev pub Once : List Lane → List Spot → Type 0
+Once ls ps = OnceEach (spots_of ls ps)
 
 -- the last of a list, and t for the empty one
 abbrev pub last_or : ℕ → List ℕ → ℕ
@@ -45,13 +61,17 @@ last_or t (x ∷ xs) = last_or x xs
 abbrev pub EndAt : Spots → (ℕ → ℕ) → Type 0
 EndAt s ts = (q : ℕ) → last_or (ts q) (s.lanes q) ≡ ts q
 
--- so it is with the array of last places
-abbrev pub Ends : List ℕ → List ℕ → List ℕ → List ℕ → List Bool → Type 0
-Ends next heads tails lens held = EndAt (spots_of next heads lens held) (λ q. slice_index tails q)
+-- so it is with the last places that the lists name
+abbrev pub Ends : List Lane → List Spot → Type 0
+Ends ls ps = EndAt (spots_of ls ps) (λ q. (lane_at ls q).tail)
+
+-- how many of the places are in hand
+abbrev pub held_in : List Spot → ℕ
+held_in ps = sum_by (λ p. one p.held) ps
 
 -- the lengths of all lists, and those in hand
-abbrev pub total : List ℕ → List Bool → ℕ
-total lens held = sum_by (λ x. x) lens + sum_by one held
+abbrev pub total : List Lane → List Spot → ℕ
+total ls ps = sum_by (λ l. l.len) ls + held_in ps
 
 -- how many places are in hand
 unfoldable pub holdings : Spots → ℕ

@@ -3,7 +3,8 @@ use Rattle.std.specs.Prelude.{◌≡◌, ℕ, ◌+◌, ◌<◌, ◌≤◌, true,
 use Rattle.store.specs.declared.hand.InHand.{InHand}
 use Rattle.store.specs.declared.hand.Put.TheVariants.{Waits}
 use Rattle.store.specs.Counting.{sum_to, one, count}
-use Rattle.store.specs.Model.{Queued, Model, fresh, is_link, wrong_length, put_answer, put_goes, put_after, places, FreeAt, take_after, in_hand, pass_after, spend_after, over_queues, waiting_in}
+use Rattle.store.specs.Maps.{Queued, queue_in, hand_in}
+use Rattle.store.specs.Model.{Model, fresh, is_link, wrong_length, put_answer, put_goes, put_after, places, FreeAt, take_after, in_hand, pass_after, spend_after, over_queues, waiting_in}
 
 -- a put with the place that the store chose, a take, a pass, and a frame taken home or dropped
 pub data Call : Type 0 where
@@ -42,7 +43,7 @@ Reached k n m = ∥ ((h : List Call) × (Allowed k n h × (run k n h ≡ m))) �
 
 -- how many of the first n places are in hand
 abbrev pub hands_to : ℕ → Model → ℕ
-hands_to n m = sum_to n (λ p. one (is_some (m.hands p)))
+hands_to n m = sum_to n (λ p. one (is_some (hand_in m.hands p)))
 
 -- how many places are in hand
 unfoldable pub in_hands : Model → ℕ
@@ -50,7 +51,7 @@ in_hands m = hands_to 128 m
 
 -- how often the place p stands, waiting or in hand
 abbrev pub stands_in : Model → ℕ → ℕ
-stands_in m p = over_queues m.links (λ hs. count p (places hs)) m.queues + one (is_some (m.hands p))
+stands_in m p = over_queues m.links (λ hs. count p (places hs)) (queue_in m.queues) + one (is_some (hand_in m.hands p))
 
 -- waiting, in hand and free are 128
 abbrev pub AllPlaces : Type 0
@@ -82,13 +83,13 @@ first_in (h ∷ hs) = h.octets ∷ []
 abbrev pub brings : ℕ → ℕ → Call → Model → List (List ℕ)
 brings l d (puts i j o p) m = cond (put_goes i j o m) (cond (i == l && j == d) (o ∷ []) []) []
 brings l d (takes i j) m = []
-brings l d (passes t i j) m = cond (is_link i j m && in_hand t m) (cond (i == l && j == d) (listed (m.hands t.place)) []) []
+brings l d (passes t i j) m = cond (is_link i j m && in_hand t m) (cond (i == l && j == d) (listed (hand_in m.hands t.place)) []) []
 brings l d (spends t) m = []
 
 -- and what it takes from it
 abbrev pub draws : ℕ → ℕ → Call → Model → List (List ℕ)
 draws l d (puts i j o p) m = []
-draws l d (takes i j) m = cond (is_link i j m) (cond (i == l && j == d) (first_in (m.queues l d)) []) []
+draws l d (takes i j) m = cond (is_link i j m) (cond (i == l && j == d) (first_in (queue_in m.queues l d)) []) []
 draws l d (passes t i j) m = []
 draws l d (spends t) m = []
 
@@ -104,7 +105,7 @@ all_drawn k n l d (c ∷ h) = all_drawn k n l d h ++ draws l d c (run k n h)
 
 -- first in, first out: what was put into a queue or passed to it is what was taken from it and then what waits
 abbrev pub FirstOut : Type 0
-FirstOut = (k n : ℕ) (h : List Call) (l d : ℕ) → all_brought k n l d h ≡ all_drawn k n l d h ++ contents_of ((run k n h).queues l d)
+FirstOut = (k n : ℕ) (h : List Call) (l d : ℕ) → all_brought k n l d h ≡ all_drawn k n l d h ++ contents_of (queue_in (run k n h).queues l d)
 
 -- all of them
 pub record Laws : Type 0 where

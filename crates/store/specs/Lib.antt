@@ -2,6 +2,7 @@ pub mod Counting
 pub mod Chains
 pub mod Spots
 pub mod Contents
+pub mod Maps
 pub mod Model
 pub mod View
 pub mod Stores

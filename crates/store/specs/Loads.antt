@@ -2,6 +2,7 @@
 use Rattle.std.specs.Prelude.{ℕ, ◌+◌, ◌-◌, Bool, cond, not, ◌&&◌, List, [], ◌∷◌, ◌++◌, nat_lt}
 use Rattle.store.specs.Counting.{change2}
 use Rattle.store.specs.Laws.{contents_of}
+use Rattle.store.specs.Maps.{queue_in}
 use Rattle.store.specs.Model.{Model, wrong_length}
 
 -- what waits on each link in each direction, first in front
@@ -16,7 +17,7 @@ load n f q = record { links = n; free = f; queues = q }
 
 -- what is left of a store without its places
 abbrev pub load_of : Model → Load
-load_of m = load m.links m.free (λ l d. contents_of (m.queues l d))
+load_of m = load m.links m.free (λ l d. contents_of (queue_in m.queues l d))
 
 -- the link and the direction are there
 abbrev pub has_link : ℕ → ℕ → Load → Bool

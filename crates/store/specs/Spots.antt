@@ -4,4 +4,4 @@ use Rattle.store.specs.declared.chains.Chains.{Chains}
 
 -- the lists and hands of the arrays
 abbrev pub spots : Chains → Spots
-spots c = spots_of c.next c.heads c.lens c.held
+spots c = spots_of c.lanes c.places

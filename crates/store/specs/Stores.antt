@@ -1,16 +1,17 @@
--- What a store of the code holds.
-use Rattle.refusal.specs.declared.Refusal.{Refusal}
-use Rattle.std.specs.Prelude.{Ok, Err, Result}
+-- What a store of the code holds, and what holds of every one.
+use Rattle.std.specs.Prelude.{◌≡◌, ◌≤◌, length}
+use Rattle.store.specs.Laws.{Reached}
 use Rattle.store.specs.Model.{Model}
 use Rattle.store.specs.Spots.{spots}
 use Rattle.store.specs.View.{model_of}
-use Rattle.store.specs.declared.store.Store.{Store}
+use Rattle.store.specs.declared.store.Store.TheInside.{Inside}
 
 -- what a store holds
-abbrev pub model : Store → Model
+abbrev pub model : Inside → Model
 model s = model_of s.number s.links (spots s.chains) s.frames
 
--- what the making gave
-abbrev pub modelled : Result Store Refusal → Result Model Refusal
-modelled (Ok s) = Ok (model s)
-modelled (Err e) = Err e
+-- every store is one that calls on a new store have left
+pub record Whole (s : Inside) : Type 0 where
+  pub few : s.links ≤ 50
+  pub long : length s.frames ≡ 128
+  pub reached : Reached s.number s.links (model s)

@@ -13,7 +13,7 @@ pub struct HandedBack {
     pub refusal: Refusal,
 }
 
-// What became of a frame that was put in.
+// What became of a frame that was put in: two answers without a value, and no refusal.
 #[derive(Clone, Copy)]
 pub enum Put {
     Waits,

@@ -1,34 +1,14 @@
 // Errands that leave no frame in hand: a frame that was taken is spent, and one that comes back is dropped.
 ghost use Rattle.std.specs.Prelude.{◌≡◌, true};
 ghost use Rattle.store.specs.Model.{in_hand};
-ghost use Rattle.store.specs.Stores.{model};
-ghost use Rattle.store_tests.specs.Back.{Back};
+ghost use Rattle.store_tests.specs.Back.{HandsBack};
 
 use refusal::Refusal;
 use store::hand::{HandedBack, InHand, Put};
 use store::store::Store;
 
-// The three ways to spend a frame in hand.
-#[derive(Clone, Copy)]
-pub(crate) enum Way {
-    Pass(usize, usize),
-    Home,
-    Drop,
-}
-
-// One that comes back is the same, and the store too.
-fn spend(store: &mut Store, frame: InHand, way: Way) -> Result<(), HandedBack>
-    ensures { Back result frame (model store.old) (model store.new) }
-{
-    match way {
-        Way::Pass(link, direction) => store.pass_on(frame, link, direction),
-        Way::Home => store.take_home(frame),
-        Way::Drop => store.drop_frame(frame),
-    }
-}
-
 fn drop_own(store: &mut Store, frame: InHand)
-    requires { in_hand frame (model store.old) ≡ true }
+    requires { in_hand frame store.old ≡ true }
 {
     match store.drop_frame(frame) {
         Ok(()) => (),
@@ -36,15 +16,18 @@ fn drop_own(store: &mut Store, frame: InHand)
     }
 }
 
-// Takes a frame and spends it.
-pub(crate) fn carry(
+// Takes a frame and spends it by this step.
+pub(crate) fn carry<F: FnOnce(&mut Store, InHand) -> Result<(), HandedBack>>(
     store: &mut Store,
     link: usize,
     direction: usize,
-    way: Way,
-) -> Result<(), Refusal> {
+    step: F,
+) -> Result<(), Refusal>
+    requires callable { F.IsAlwaysCallable step }
+    requires back { HandsBack (F.post step) }
+{
     let frame = store.take(link, direction)?;
-    match spend(store, frame, way) {
+    match step(store, frame) {
         Ok(()) => Ok(()),
         Err(back) => {
             let HandedBack { frame, refusal } = back;
@@ -54,10 +37,18 @@ pub(crate) fn carry(
     }
 }
 
-// Takes the first frame of link 0 and direction 0, and spends it in another store.
-pub(crate) fn carry_away(own: &mut Store, other: &mut Store, way: Way) -> Result<(), Refusal> {
+// Takes the first frame of link 0 and direction 0, and spends it in another store by this step. Beside `carry`, whose step
+// has the one store that its frame comes back to.
+pub(crate) fn carry_away<F: FnOnce(&mut Store, InHand) -> Result<(), HandedBack>>(
+    own: &mut Store,
+    other: &mut Store,
+    step: F,
+) -> Result<(), Refusal>
+    requires callable { F.IsAlwaysCallable step }
+    requires back { HandsBack (F.post step) }
+{
     let frame = own.take(0, 0)?;
-    match spend(other, frame, way) {
+    match step(other, frame) {
         Ok(()) => Ok(()),
         Err(back) => {
             let HandedBack { frame, refusal } = back;
@@ -67,11 +58,23 @@ pub(crate) fn carry_away(own: &mut Store, other: &mut Store, way: Way) -> Result
     }
 }
 
+// Takes a frame, looks at it and at the store while it is in hand, and drops it.
+pub(crate) fn holding<R, F: FnOnce(&Store, &InHand) -> R>(
+    store: &mut Store,
+    link: usize,
+    direction: usize,
+    look: F,
+) -> Result<R, Refusal>
+    requires { F.IsAlwaysCallable look }
+{
+    let frame = store.take(link, direction)?;
+    let seen = look(store, &frame);
+    drop_own(store, frame);
+    Ok(seen)
+}
+
 fn alike(store: &Store, frame: &InHand, octets: &[u8]) -> bool {
-    match store.octets(frame) {
-        Ok(found) => found == octets,
-        Err(_) => false,
-    }
+    store.octets(frame).is_ok_and(|found| found == octets)
 }
 
 // Takes a frame and says whether it has these octets.
@@ -81,24 +84,23 @@ pub(crate) fn take_alike(
     direction: usize,
     octets: &[u8],
 ) -> Result<bool, Refusal> {
-    let frame = store.take(link, direction)?;
-    let same = alike(store, &frame, octets);
-    drop_own(store, frame);
-    Ok(same)
+    holding(
+        store,
+        link,
+        direction,
+        |store, frame| alike(store, frame, octets),
+    )
 }
 
 // The number by which another store refuses to show the octets of the first frame of link 0 and direction 0.
 pub(crate) fn shown_by(own: &mut Store, other: &Store) -> Result<u8, Refusal> {
-    let frame = own.take(0, 0)?;
-    let number = match other.octets(&frame) {
+    holding(own, 0, 0, |_, frame| match other.octets(frame) {
         Ok(_) => 0,
         Err(refusal) => refusal.number(),
-    };
-    drop_own(own, frame);
-    Ok(number)
+    })
 }
 
-// Puts a frame in while the first one of that queue is in hand.
+// Puts a frame in while the first one of that queue is in hand. No call of `holding`: the step of that leaves the store.
 pub(crate) fn put_while_holding(
     store: &mut Store,
     link: usize,
@@ -109,18 +111,6 @@ pub(crate) fn put_while_holding(
     let put = store.put(link, direction, octets);
     drop_own(store, frame);
     put
-}
-
-// Says whether anything waits while the first frame of a queue is in hand.
-pub(crate) fn waits_while_holding(
-    store: &mut Store,
-    link: usize,
-    direction: usize,
-) -> Result<bool, Refusal> {
-    let frame = store.take(link, direction)?;
-    let waits = store.anything_waits();
-    drop_own(store, frame);
-    Ok(waits)
 }
 
 // Takes a frame of each of two stores and drops both in the other one. Says whether the second came back from there.

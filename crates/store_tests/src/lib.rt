@@ -67,7 +67,7 @@ mod tests {
         check_waiting(&rt, &store, 1, 0, 128)?;
         check_waiting(&rt, &store, 0, 1, 0)?;
         assert_eq!(rt; store.free(), 0);
-        carry(&mut store, 1, 0, Way::Drop)?;
+        carry(&mut store, 1, 0, Store::drop_frame)?;
         assert_eq!(rt; store.free(), 1);
         check_waits(&rt, store.put(0, 1, &OCTETS));
         check_lost(&rt, store.put(0, 1, &OCTETS));
@@ -118,7 +118,12 @@ mod tests {
         let octets = frame_of(9);
         check_waits(&rt, store.put(0, 0, &octets));
         for link in 0..50 {
-            carry(&mut store, link, 0, Way::Pass((link + 1) % 50, 0))?;
+            carry(
+                &mut store,
+                link,
+                0,
+                |store, frame| store.pass_on(frame, (link + 1) % 50, 0),
+            )?;
             check_waiting(&rt, &store, link, 0, 0)?;
             assert_eq!(rt; store.free(), 127);
         }
@@ -159,7 +164,7 @@ mod tests {
         assert!(rt; !store.anything_waits());
         check_waits(&rt, store.put(49, 1, &OCTETS));
         assert!(rt; store.anything_waits());
-        assert!(rt; !waits_while_holding(&mut store, 49, 1)?);
+        assert!(rt; !holding(&mut store, 49, 1, |store, _| store.anything_waits())?);
         assert!(rt; !store.anything_waits());
         Ok(())
     }
@@ -194,12 +199,12 @@ mod tests {
     fn take_refused_in_order(rt: HostRuntime) -> Result<(), Fail> {
         let mut store = Store::new(1, 2)?;
         check_waits(&rt, store.put(0, 0, &OCTETS));
-        assert_eq!(rt; number(carry(&mut store, 2, 2, Way::Home)), 15);
-        assert_eq!(rt; number(carry(&mut store, 1, 2, Way::Home)), 17);
-        assert_eq!(rt; number(carry(&mut store, 1, 1, Way::Home)), 20);
+        assert_eq!(rt; number(carry(&mut store, 2, 2, Store::take_home)), 15);
+        assert_eq!(rt; number(carry(&mut store, 1, 2, Store::take_home)), 17);
+        assert_eq!(rt; number(carry(&mut store, 1, 1, Store::take_home)), 20);
         assert_eq!(rt; number(store.waiting(2, 2)), 15);
         assert_eq!(rt; number(store.waiting(1, 2)), 17);
-        assert_eq!(rt; number(carry(&mut store, 0, 0, Way::Home)), 0);
+        assert_eq!(rt; number(carry(&mut store, 0, 0, Store::take_home)), 0);
         assert_eq!(rt; store.free(), 128);
         Ok(())
     }
@@ -212,19 +217,37 @@ mod tests {
             check_waits(&rt, own.put(0, 0, &OCTETS));
         }
         assert_eq!(rt;
-            number(carry_away(&mut own, &mut other, Way::Pass(2, 2))),
+            number(carry_away(
+                &mut own,
+                &mut other,
+                |store, frame| store.pass_on(frame, 2, 2)
+            )),
             15
         );
         assert_eq!(rt;
-            number(carry_away(&mut own, &mut other, Way::Pass(1, 2))),
+            number(carry_away(
+                &mut own,
+                &mut other,
+                |store, frame| store.pass_on(frame, 1, 2)
+            )),
             17
         );
         assert_eq!(rt;
-            number(carry_away(&mut own, &mut other, Way::Pass(1, 1))),
+            number(carry_away(
+                &mut own,
+                &mut other,
+                |store, frame| store.pass_on(frame, 1, 1)
+            )),
             23
         );
-        assert_eq!(rt; number(carry(&mut own, 0, 0, Way::Pass(2, 2))), 15);
-        assert_eq!(rt; number(carry(&mut own, 0, 0, Way::Pass(1, 2))), 17);
+        assert_eq!(rt;
+            number(carry(&mut own, 0, 0, |store, frame| store.pass_on(frame, 2, 2))),
+            15
+        );
+        assert_eq!(rt;
+            number(carry(&mut own, 0, 0, |store, frame| store.pass_on(frame, 1, 2))),
+            17
+        );
         assert_eq!(rt; own.free(), 128);
         assert_eq!(rt; other.free(), 128);
         Ok(())
@@ -237,8 +260,14 @@ mod tests {
         for _ in 0..3 {
             check_waits(&rt, own.put(0, 0, &OCTETS));
         }
-        assert_eq!(rt; number(carry_away(&mut own, &mut other, Way::Home)), 23);
-        assert_eq!(rt; number(carry_away(&mut own, &mut other, Way::Drop)), 23);
+        assert_eq!(rt;
+            number(carry_away(&mut own, &mut other, Store::take_home)),
+            23
+        );
+        assert_eq!(rt;
+            number(carry_away(&mut own, &mut other, Store::drop_frame)),
+            23
+        );
         assert_eq!(rt; shown_by(&mut own, &other)?, 23);
         assert_eq!(rt; own.free(), 128);
         assert_eq!(rt; other.free(), 128);
@@ -255,11 +284,21 @@ mod tests {
             check_waits(&rt, own.put(0, 0, &OCTETS));
         }
         assert_eq!(rt;
-            number(carry_away(&mut own, &mut other, Way::Pass(1, 1))),
+            number(carry_away(
+                &mut own,
+                &mut other,
+                |store, frame| store.pass_on(frame, 1, 1)
+            )),
             23
         );
-        assert_eq!(rt; number(carry_away(&mut own, &mut other, Way::Home)), 23);
-        assert_eq!(rt; number(carry_away(&mut own, &mut other, Way::Drop)), 23);
+        assert_eq!(rt;
+            number(carry_away(&mut own, &mut other, Store::take_home)),
+            23
+        );
+        assert_eq!(rt;
+            number(carry_away(&mut own, &mut other, Store::drop_frame)),
+            23
+        );
         assert_eq!(rt; shown_by(&mut own, &other)?, 23);
         check_waiting(&rt, &other, 0, 0, 1)?;
         assert_eq!(rt; other.free(), 127);

@@ -1,38 +1,40 @@
 // The two moves, the first of a list into the hand and a place in hand to the end of a list; and what can be asked.
-ghost use Rattle.std.specs.Prelude.{◌≡◌, ℕ, ◌+◌, ◌<◌, true, false, length, slice_index};
+ghost use Rattle.std.specs.Prelude.{◌≡◌, ℕ, ◌+◌, ◌<◌, true, false, length};
 ghost use Rattle.store.specs.Chains.{first_of, popped, pushed, all_free, holdings};
 ghost use Rattle.store.specs.Spots.{spots};
 
-use crate::chains::Chains;
-
-// Each place leads to the one after it.
-fn ascending() -> [usize; 128]
-    ensures size { length result ≡ 128 }
-    ensures leads { (k : ℕ) → k < 127 → slice_index result k ≡ k + 1 }
-{
-    let mut next = [0; 128];
-    for i in 0..127 {
-        next[i] = i + 1;
-    }
-    next
-}
+use crate::chains::{Chains, Lane, Spot};
 
 impl Chains {
     // All places are free.
     pub(crate) fn new() -> Self
         ensures { spots result ≡ all_free }
     {
-        let next = ascending();
-        let mut tails = [0; 101];
-        tails[0] = 127;
-        let mut lens = [0; 101];
-        lens[0] = 128;
+        let places = std::array::from_fn(
+            |place|
+                requires { place < 128 }
+                ensures { (result.next ≡ place + 1) × (result.held ≡ false) }
+            {
+                Spot {
+                    next: place + 1,
+                    held: false,
+                }
+            },
+        );
+        let empty = Lane {
+            head: 0,
+            tail: 0,
+            len: 0,
+        };
+        let mut lanes = [empty; 101];
+        lanes[0] = Lane {
+            head: 0,
+            tail: 127,
+            len: 128,
+        };
         Chains {
-            next,
-            heads: [0; 101],
-            tails,
-            lens,
-            held: [false; 128],
+            lanes,
+            places,
             taken: 0,
             given: 0,
         }
@@ -44,16 +46,17 @@ impl Chains {
         ensures answer { result ≡ first_of ((spots self.old).lanes list) }
         ensures after { spots self.new ≡ popped list (spots self.old) }
     {
-        let len = self.lens[list];
+        let Lane { head, tail: _, len } = self.lanes[list];
         if len == 0 {
             return None;
         }
-        let place = self.heads[list];
-        self.heads[list] = self.next[place];
-        self.held[place] = true;
+        let next = self.places[head].next;
+        let lane = &mut self.lanes[list];
+        lane.head = next;
+        lane.len = len - 1;
+        self.places[head].held = true;
         self.taken = self.taken.wrapping_add(1);
-        self.lens[list] = len - 1;
-        Some(place)
+        Some(head)
     }
 
     // Puts a place in hand behind all of a list.
@@ -61,22 +64,26 @@ impl Chains {
         requires { (list < 101) × ((spots self.old).hand place ≡ true) }
         ensures { spots self.new ≡ pushed list place (spots self.old) }
     {
-        let len = self.lens[list];
-        if len == 0 {
-            self.heads[list] = place;
+        let Lane { head, tail, len } = self.lanes[list];
+        let head = if len == 0 {
+            place
         } else {
-            self.next[self.tails[list]] = place;
-        }
-        self.tails[list] = place;
-        self.lens[list] = len + 1;
-        self.held[place] = false;
+            self.places[tail].next = place;
+            head
+        };
+        self.lanes[list] = Lane {
+            head,
+            tail: place,
+            len: len + 1,
+        };
+        self.places[place].held = false;
         self.given = self.given.wrapping_add(1);
     }
 
     pub(crate) fn is_held(&self, place: usize) -> bool
         ensures { result ≡ (spots self.now).hand place }
     {
-        place < 128 && self.held[place]
+        place < 128 && self.places[place].held
     }
 
     // How many places are in hand.
@@ -90,6 +97,6 @@ impl Chains {
         requires { list < 101 }
         ensures { result ≡ length ((spots self.now).lanes list) }
     {
-        self.lens[list]
+        self.lanes[list].len
     }
 }

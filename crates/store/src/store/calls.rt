@@ -1,11 +1,12 @@
 // The calls of a store: five that change it, and four questions.
-ghost use Rattle.std.specs.Prelude.{◌≡◌, ℕ, ◌+◌, ◌<◌, ◌≤◌, true, false, not, ◌||◌, length, nat_lt, slice_index_or, slice_set};
+ghost use Rattle.std.specs.Prelude.{◌≡◌, ℕ, ◌+◌, ◌<◌, ◌≤◌, cond, length, nat_lt, slice_index_or, slice_set};
 ghost use Rattle.store.specs.Counting.{one};
 ghost use Rattle.store.specs.Contents.{contents, no_frame};
-ghost use Rattle.store.specs.Model.{wrong_length, new_answer, put_answer, PutInto, take_answer, take_after, Held, in_hand, pass_answer, pass_after, waiting_answer, shown, octets_answer, spend_answer, spend_after, waiting_in, any_waits};
+ghost use Rattle.store.specs.Model.{wrong_size, wrong_length, new_answer, put_answer, PutInto, take_answer, take_after, Held, pass_answer, pass_after, waiting_answer, shown, octets_answer, spend_answer, spend_after, waiting_in, any_waits};
 ghost use Rattle.store.specs.Laws.{Laws, in_hands, stands_in};
-ghost use Rattle.store.specs.View.{lane_answer};
-ghost use Rattle.store.specs.Stores.{model, modelled};
+ghost use Rattle.store.specs.Chains.{pushed};
+ghost use Rattle.store.specs.Spots.{spots};
+ghost use Rattle.store.specs.View.{lane_answer, is_held, held_answer};
 
 use crate::chains::Chains;
 use crate::frame::Frame;
@@ -30,10 +31,40 @@ fn lane_of(links: usize, link: usize, direction: usize) -> Result<usize, Refusal
     Ok(1 + 2 * link + direction)
 }
 
+fn is_wrong_size(links: usize) -> bool
+    ensures { result ≡ wrong_size links }
+{
+    !(2..=50).contains(&links)
+}
+
 fn is_wrong_length(octets: &[u8]) -> bool
     ensures { result ≡ wrong_length octets.now }
 {
-    octets.len() < 50 || octets.len() > 60
+    !(50..=60).contains(&octets.len())
+}
+
+// Whether a frame in hand is of the store with this number, and its place is in hand there.
+fn holds(chains: &Chains, number: u32, frame: &InHand) -> bool
+    ensures { result ≡ is_held frame.now number (spots chains.now) }
+{
+    frame.store == number && chains.is_held(frame.place)
+}
+
+// The place of a frame in hand goes behind all of a list. A frame that is not in hand there comes back.
+fn spend(chains: &mut Chains, number: u32, frame: InHand, list: usize) -> Result<(), HandedBack>
+    requires { list < 101 }
+    ensures answer { result ≡ held_answer frame (is_held frame number (spots chains.old)) }
+    ensures after { spots chains.new ≡ cond (is_held frame number (spots chains.old)) (pushed list frame.place (spots chains.old)) (spots chains.old) }
+{
+    if !holds(chains, number, &frame) {
+        return Err(HandedBack {
+            frame,
+            refusal: Refusal::NotInHand,
+        });
+    }
+    let InHand { store: _, place } = frame;
+    chains.push(list, place);
+    Ok(())
 }
 
 // Copies the octets into one of the frames.
@@ -46,9 +77,9 @@ fn fill_at(frames: &mut [Frame], place: usize, octets: &[u8])
 
 impl Store {
     pub fn new(number: u32, links: usize) -> Result<Self, Refusal>
-        ensures { modelled result ≡ new_answer number links }
+        ensures { result ≡ new_answer number links }
     {
-        if links < 2 || links > 50 {
+        if is_wrong_size(links) {
             return Err(Refusal::RingSize);
         }
         Ok(Store {
@@ -61,8 +92,8 @@ impl Store {
 
     // A frame joins a queue, if a place is free.
     pub fn put(&mut self, link: usize, direction: usize, octets: &[u8]) -> Result<Put, Refusal>
-        ensures answer { result ≡ put_answer link direction octets.now (model self.old) }
-        ensures after { (p : ℕ) × PutInto link direction octets.now (model self.old) (model self.new) p }
+        ensures answer { result ≡ put_answer link direction octets.now self.old }
+        ensures after { (p : ℕ) × PutInto link direction octets.now self.old self.new p }
     {
         if is_wrong_length(octets) {
             return Err(Refusal::FrameSize);
@@ -78,9 +109,9 @@ impl Store {
 
     // The first frame of a queue comes into the caller's hand.
     pub fn take(&mut self, link: usize, direction: usize) -> Result<InHand, Refusal>
-        ensures answer { result ≡ take_answer link direction (model self.old) }
-        ensures after { model self.new ≡ take_after link direction (model self.old) }
-        ensures held { Held result (model self.new) }
+        ensures answer { result ≡ take_answer link direction self.old }
+        ensures after { self.new ≡ take_after link direction self.old }
+        ensures held { Held result self.new }
     {
         let lane = lane_of(self.links, link, direction)?;
         let Some(place) = self.chains.pop(lane) else {
@@ -92,13 +123,6 @@ impl Store {
         })
     }
 
-    // Whether a frame in hand is of this store, and its place is in hand here.
-    fn holds(&self, frame: &InHand) -> bool
-        ensures { result ≡ in_hand frame.now (model self.now) }
-    {
-        frame.store == self.number && self.chains.is_held(frame.place)
-    }
-
     // A frame in hand joins a queue; it keeps its place.
     pub fn pass_on(
         &mut self,
@@ -106,53 +130,37 @@ impl Store {
         link: usize,
         direction: usize,
     ) -> Result<(), HandedBack>
-        ensures answer { result ≡ pass_answer frame link direction (model self.old) }
-        ensures after { model self.new ≡ pass_after frame link direction (model self.old) }
+        ensures answer { result ≡ pass_answer frame link direction self.old }
+        ensures after { self.new ≡ pass_after frame link direction self.old }
     {
-        let lane = match lane_of(self.links, link, direction) {
-            Ok(lane) => lane,
-            Err(refusal) => return Err(HandedBack { frame, refusal }),
-        };
-        if !self.holds(&frame) {
-            return Err(HandedBack {
-                frame,
-                refusal: Refusal::NotInHand,
-            });
+        // No `map_err` with `?`: its closure would take the frame where there is such a queue too.
+        match lane_of(self.links, link, direction) {
+            Ok(lane) => spend(&mut self.chains, self.number, frame, lane),
+            Err(refusal) => Err(HandedBack { frame, refusal }),
         }
-        let InHand { store: _, place } = frame;
-        self.chains.push(lane, place);
-        Ok(())
     }
 
     // A frame in hand is gone, and its place is free.
     pub fn drop_frame(&mut self, frame: InHand) -> Result<(), HandedBack>
-        ensures answer { result ≡ spend_answer frame (model self.old) }
-        ensures after { model self.new ≡ spend_after frame (model self.old) }
+        ensures answer { result ≡ spend_answer frame self.old }
+        ensures after { self.new ≡ spend_after frame self.old }
     {
-        if !self.holds(&frame) {
-            return Err(HandedBack {
-                frame,
-                refusal: Refusal::NotInHand,
-            });
-        }
-        let InHand { store: _, place } = frame;
-        self.chains.push(FREE, place);
-        Ok(())
+        spend(&mut self.chains, self.number, frame, FREE)
     }
 
     // A frame that arrived where it is meant for leaves the store as a dropped one does.
     pub fn take_home(&mut self, frame: InHand) -> Result<(), HandedBack>
-        ensures answer { result ≡ spend_answer frame (model self.old) }
-        ensures after { model self.new ≡ spend_after frame (model self.old) }
+        ensures answer { result ≡ spend_answer frame self.old }
+        ensures after { self.new ≡ spend_after frame self.old }
     {
         self.drop_frame(frame)
     }
 
     // The octets of a frame in hand, lent.
     pub fn octets(&self, frame: &InHand) -> Result<&[u8], Refusal>
-        ensures { shown result ≡ octets_answer frame.now (model self.now) }
+        ensures { shown result ≡ octets_answer frame.now self.now }
     {
-        if !self.holds(frame) {
+        if !holds(&self.chains, self.number, frame) {
             return Err(Refusal::NotInHand);
         }
         Ok(self.frames[frame.place].octets())
@@ -160,7 +168,7 @@ impl Store {
 
     // How many frames wait in a queue.
     pub fn waiting(&self, link: usize, direction: usize) -> Result<u8, Refusal>
-        ensures { result ≡ waiting_answer link direction (model self.now) }
+        ensures { result ≡ waiting_answer link direction self.now }
     {
         let lane = lane_of(self.links, link, direction)?;
         Ok(self.chains.len(lane))
@@ -168,9 +176,9 @@ impl Store {
 
     // How many places are free.
     pub fn free(&self) -> u8
-        ensures answer { result ≡ (model self.now).free }
-        ensures rest { waiting_in (model self.now) + in_hands (model self.now) + result ≡ 128 }
-        ensures once { (p : ℕ) → stands_in (model self.now) p ≤ one (nat_lt p 128) }
+        ensures answer { result ≡ self.now.free }
+        ensures rest { waiting_in self.now + in_hands self.now + result ≡ 128 }
+        ensures once { (p : ℕ) → stands_in self.now p ≤ one (nat_lt p 128) }
         ensures laws { Laws }
     {
         self.chains.len(FREE)
@@ -178,7 +186,7 @@ impl Store {
 
     // Whether a frame waits in any queue.
     pub fn anything_waits(&self) -> bool
-        ensures { result ≡ any_waits (model self.now) }
+        ensures { result ≡ any_waits self.now }
     {
         self.free() + self.chains.in_hand() < 128
     }

@@ -1,25 +1,24 @@
-use Rattle.std.proofs.Common.{get_or, set, replicate, sym, refl, subst}
-use Rattle.store.specs.Chains.{Spots, OnceEach, EndAt}
-use Rattle.store.proofs.Start.{start_once, start_after, start_ends}
+use Rattle.std.proofs.Common.{sym, refl, subst, arith}
+use Rattle.store.specs.Chains.{Spots, OnceEach, EndAt, no_spot, lane_at}
+use Rattle.store.proofs.Start.{Up, first_lanes, start_once, start_after, start_ends, start_held}
 use Rattle.store.proofs.chains.Chains.new.Goals as goal
 
 pub invariant_of-result : goal.invariant_of-result
 invariant_of-result c =
-    let up = c.ascending-next.ensures.leads in
-    let after = sym (start_after c.ascending-next.result up) in
-    let once = subst OnceEach after start_once in
-    let ends = subst (λ (x : Spots). EndAt x (λ j. get_or (set (replicate 101 0) 0 127) j 0)) after (start_ends c.ascending-next.result up) in
+    let made = c.from_fn-places.ensures.items in
+    let up : Up c.from_fn-places.result = λ i l. (made.at i no_spot l).2.met in
+    let after = sym (start_after c.from_fn-places.result made.long up) in
+    let held = start_held c.from_fn-places.result made.long up in
     record {
-      nexts = c.ascending-next.ensures.size;
-      first = refl;
-      last = refl;
-      many = refl;
-      hands = refl;
-      once = once;
-      ends = ends;
-      all = refl;
-      counted = refl;
+      lists = refl;
+      sites = made.long;
+      once = subst OnceEach after start_once;
+      ends = subst (λ (x : Spots). EndAt x (λ j. (lane_at first_lanes j).tail)) after (start_ends c.from_fn-places.result made.long up);
+      all = omega (arith, held);
+      counted = omega (arith, held);
     }
 
 pub returns : goal.returns
-returns c = start_after c.ascending-next.result c.ascending-next.ensures.leads
+returns c =
+    let made = c.from_fn-places.ensures.items in
+    start_after c.from_fn-places.result made.long (λ i l. (made.at i no_spot l).2.met)

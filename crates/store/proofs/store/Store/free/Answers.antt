@@ -4,10 +4,10 @@ use Rattle.store.proofs.Reach.{all_somewhere, once_each}
 use Rattle.store.proofs.store.Store.free.Goals as goal
 
 pub returns-clause-rest : goal.returns-clause-rest
-returns-clause-rest c = rw c.len.ensures (all_somewhere c.args.self.now)
+returns-clause-rest c = rw (c.len.ensures, ← c.self.view_is) (all_somewhere c.self.inside c.self.invariant)
 
 pub returns-clause-once : goal.returns-clause-once
-returns-clause-once c = once_each c.args.self.now
+returns-clause-once c = rw (← c.self.view_is) (once_each c.self.inside c.self.invariant)
 
 pub returns-clause-laws : goal.returns-clause-laws
 returns-clause-laws c = record { all_places = all_places; none_twice = none_twice; finds_room = finds_room; first_out = first_out }
