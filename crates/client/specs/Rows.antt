@@ -1,5 +1,5 @@
 -- The client's rows C1 to C30, each its actions in their order. C1, the start, stands with the machine.
-use Rattle.std.specs.Prelude.{ℕ, ◌-◌, ◌*◌, Bool, true, false, cond, List, [], ◌∷◌, ◌++◌, Some, None, Ok, Err, Option, Result, nat_lt}
+use Rattle.std.specs.Prelude.{ℕ, ◌-◌, ◌*◌, Bool, true, false, cond, List, [], ◌∷◌, ◌++◌, Some, None, Option, Result, nat_lt}
 use Rattle.refusal.specs.declared.Refusal.{Refusal}
 use Rattle.switch.specs.Ports.{other, same_port}
 use Rattle.switch.specs.declared.port.Port.{Port}
@@ -8,18 +8,23 @@ use Rattle.switch.specs.declared.port.PortState.TheVariants.{Blocked, Forwarding
 use Rattle.outbox.specs.declared.message.Message.{Message}
 use Rattle.outbox.specs.declared.message.Message.TheVariants.{LinkUp, LinkDown}
 use Rattle.outbox.specs.Boxes.{Sent}
+use Rattle.settings.specs.Setups.{Setup}
 use Rattle.outbox.specs.Rows as rows
 use Rattle.outbox.specs.Rows.{◌▷◌, its, sets, clears}
-use Rattle.event.specs.Events.{Event, timer_of, is_on, run_out}
+use Rattle.event.specs.Events.{Event, timer_of, run_out}
 use Rattle.event.specs.Events as event
 use Rattle.event.specs.declared.Timer.{Timer}
 use Rattle.event.specs.declared.Timer.TheVariants as timer
 use Rattle.hearing.specs.Heards.{heard, is_mrp}
 use Rattle.hearing.specs.declared.Heard.{Heard}
 use Rattle.hearing.specs.declared.Heard.TheVariants as said
+use Rattle.machine.specs.Steps as steps
 use Rattle.client.specs.declared.state.State.{State}
 use Rattle.client.specs.declared.state.State.TheVariants.{AcStat1, DeIdle, De, Pt, PtIdle}
 use Rattle.client.specs.Machines.{Machine, in_state, with_primary, with_up, with_down, with_clear, with_left, numbered, timer_in}
+
+abbrev pub setup_of : Machine → Setup
+setup_of m = m.setup
 
 -- a client in the middle of a row
 abbrev pub Row : Type 0
@@ -153,11 +158,11 @@ down_out false De r = r ▷ refills ▷ goes DeIdle
 down_out true De r = r ▷ lessens ▷ starts_down ▷ tells_down
 down_out more PtIdle r = r
 
-abbrev pub hears : Heard → Row → Row
-hears said.OwnTest r = r
-hears said.LinkFrame r = r
-hears (said.TopologyChange t) r = changes t r.machine.state r
-hears said.Nothing r = r
+abbrev pub hears : Option Heard → Row → Row
+hears (Some said.OwnTest) r = r
+hears (Some said.LinkFrame) r = r
+hears (Some (said.TopologyChange t)) r = changes t r.machine.state r
+hears None r = r
 
 abbrev pub turns : Bool → Port → Row → Row
 turns true p r = up r.machine.state (same_port p r.machine.primary) p r
@@ -172,10 +177,8 @@ fires timer.LinkDown r = r ▷ stops_down ▷ down_out (nat_lt 0 r.machine.left)
 -- C30
 fires timer.Clear r = r ▷ stops_clear ▷ clears
 
--- a run-out that is refused does nothing
 abbrev pub expires : Result Timer Refusal → Row → Row
-expires (Err e) r = r
-expires (Ok t) r = cond (is_on (timer_in r.machine t)) (fires t r) r
+expires t r = steps.expires fires (timer_in r.machine) t r
 
 abbrev pub acts : Event → Row → Row
 acts (event.turns p b) r = turns b p r

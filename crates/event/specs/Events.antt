@@ -1,5 +1,5 @@
 -- What happens to a node, and what it refuses.
-use Rattle.std.specs.Prelude.{ℕ, zero, suc, Bool, true, false, cond, List, Some, None, Ok, Err, Option, Result}
+use Rattle.std.specs.Prelude.{ℕ, zero, suc, Bool, true, false, cond, List, Some, None, Ok, Err, Option, Result, codes}
 use Rattle.refusal.specs.declared.Refusal.{Refusal}
 use Rattle.refusal.specs.declared.Refusal.TheVariants.{NoSuchTimer, TimerNotRunning}
 use Rattle.switch.specs.declared.port.Port.{Port}
@@ -20,6 +20,14 @@ timer_of (suc (suc zero)) = Ok LinkUp
 timer_of (suc (suc (suc zero))) = Ok LinkDown
 timer_of (suc (suc (suc (suc zero)))) = Ok Clear
 timer_of (suc (suc (suc (suc (suc n))))) = Err NoSuchTimer
+
+-- the name of a timer
+abbrev pub timer_name : Timer → List ℕ
+timer_name Test = codes "test"
+timer_name Topology = codes "topology"
+timer_name LinkUp = codes "link-up"
+timer_name LinkDown = codes "link-down"
+timer_name Clear = codes "clear"
 
 -- a timer holds the interval that it was started with, and runs where it holds one
 abbrev pub is_on : Option ℕ → Bool

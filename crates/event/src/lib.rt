@@ -1,10 +1,11 @@
 // What happens to a node: a link turns, a frame comes, a timer runs out.
 #![tactic(auto)]
 
-ghost use Rattle.std.specs.Prelude.{◌≡◌};
-ghost use Rattle.event.specs.Events.{timer_of};
+ghost use Rattle.std.specs.Prelude.{◌≡◌, Some};
+ghost use Rattle.event.specs.Events.{timer_of, timer_name};
 
 use refusal::Refusal;
+use std::fmt;
 
 // The timers of a node, by their numbers.
 #[derive(Clone, Copy, PartialEq, Eq, Debug)]
@@ -16,10 +17,12 @@ pub enum Timer {
     Clear = 4,
 }
 
-impl Timer {
-    pub fn of(number: u8) -> Result<Timer, Refusal>
-        ensures { result ≡ timer_of number }
-    {
+impl TryFrom<u8> for Timer {
+    type Error = Refusal;
+
+    ghost try_from_gives = { λ n r. r ≡ timer_of n };
+
+    fn try_from(number: u8) -> Result<Self, Refusal> {
         match number {
             0 => Ok(Timer::Test),
             1 => Ok(Timer::Topology),
@@ -28,5 +31,19 @@ impl Timer {
             4 => Ok(Timer::Clear),
             _ => Err(Refusal::NoSuchTimer),
         }
+    }
+}
+
+impl fmt::Display for Timer {
+    ghost output = { λ x. Some (timer_name x) };
+
+    fn fmt<W: fmt::Write>(&self, f: &mut fmt::Formatter<W>) -> fmt::Result {
+        f.write_str(match self {
+            Timer::Test => "test",
+            Timer::Topology => "topology",
+            Timer::LinkUp => "link-up",
+            Timer::LinkDown => "link-down",
+            Timer::Clear => "clear",
+        })
     }
 }

@@ -14,7 +14,9 @@ use Rattle.client.specs.Machines as client-machine
 use Rattle.client.specs.Rows as client-rows
 use Rattle.manager.specs.Machines as manager-machine
 use Rattle.manager.specs.Rows as manager-rows
-use Rattle.node.specs.Nodes.{Node, client, manager, setup_of, acts}
+use Rattle.node.specs.Nodes.{setup_of, acts}
+use Rattle.node.specs.declared.Node.{Node}
+use Rattle.node.specs.declared.Node.TheVariants.{Client, Manager}
 use Rattle.node_laws.specs.Histories.{after, links_after}
 use Rattle.node_laws.specs.Tables.{Fit, Opens}
 use Rattle.node_laws.specs.Saying.{Every, ReadsBack}
@@ -61,8 +63,8 @@ manager_silent stamp (Ok t) m w e h = silent_by (is_on (manager-machine.timer_in
 silent : (stamp : ℕ) (v : Event) (n : Node) (w : Meaning) (e : Refusal) → step_answer v n ≡ Err e → (acts stamp v (opened n w)).sent ≡ []
 silent stamp (turns p b) n w e h = unlike e h
 silent stamp (hears p xs) n w e h = unlike e h
-silent stamp (expires k) (client m) w e h = client_silent (timer_of k) m w e h
-silent stamp (expires k) (manager m) w e h = manager_silent stamp (timer_of k) m w e h
+silent stamp (expires k) (Client m) w e h = client_silent (timer_of k) m w e h
+silent stamp (expires k) (Manager m) w e h = manager_silent stamp (timer_of k) m w e h
 
 pub step : (stamp : ℕ) (e : Event) (n n' : Node) (w w' : Meaning) (o o' : Outbox) → Acted (acts stamp e) (setup_of n) n n' w w' (begun (step_answer e n) o) o' → Stepped stamp e n n' w w' o o'
 step stamp e n n' w w' o o' a = record {

@@ -2,16 +2,17 @@
 use Rattle.std.specs.Prelude.{◌≡◌, ℕ, List, length, Ok, Err, Result}
 use Rattle.refusal.specs.declared.Refusal.{Refusal}
 use Rattle.switch.specs.Meanings.{Meaning}
-use Rattle.settings.specs.Setups.{Setup}
+use Rattle.settings.specs.Setups.{Setup, Within}
 use Rattle.event.specs.Events.{Event, turns, hears, expires}
 use Rattle.outbox.specs.declared.places.Outbox.{Outbox}
 use Rattle.outbox.specs.Boxes.{Sent, laid}
 use Rattle.outbox.specs.Rows.{opened}
 use Rattle.node.specs.declared.Role.{Role}
-use Rattle.node.specs.Nodes.{Node, setup_of, acts, expire_answer}
+use Rattle.node.specs.Nodes.{setup_of, acts, expire_answer}
+use Rattle.node.specs.declared.Node.{Node}
 use Rattle.node_laws.specs.Histories.{Happened, after, links_after, Stamped}
 use Rattle.node_laws.specs.Tables.{Fit, Opens}
-use Rattle.node_laws.specs.Saying.{Whole, ReadsBack, Every}
+use Rattle.node_laws.specs.Saying.{ReadsBack, Every}
 
 -- only a timer is ever refused
 abbrev pub step_answer : Event → Node → Result (Unit {0}) Refusal
@@ -31,7 +32,7 @@ Here n w = (r : Role) (s : Setup) (v : Meaning) (h : List Happened) → (after r
 
 -- whatever led it here, all that it sent in its last step reads back as it was meant
 abbrev pub SaidBack : Node → Meaning → List Sent → Type 0
-SaidBack n w fs = (r : Role) (s : Setup) (v : Meaning) (h : List Happened) → Whole s → Stamped h → (after r s v h).machine ≡ n → (after r s v h).switch ≡ w → (after r s v h).sent ≡ fs → Every (ReadsBack s) fs
+SaidBack n w fs = (r : Role) (s : Setup) (v : Meaning) (h : List Happened) → Within s → Stamped h → (after r s v h).machine ≡ n → (after r s v h).switch ≡ w → (after r s v h).sent ≡ fs → Every (ReadsBack s) fs
 
 -- a node takes an event: node, switch and places before and after
 pub record Stepped (stamp : ℕ) (e : Event) (n n' : Node) (w w' : Meaning) (o o' : Outbox) : Type 0 where

@@ -1,3 +1,3 @@
+pub mod States
 pub mod Machines
 pub mod Rows
-pub mod Models

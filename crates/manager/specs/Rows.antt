@@ -1,11 +1,11 @@
 -- The manager's rows M1 to M10, each its actions in their order. The state goes over before a Test is sent, since a Test
 -- tells the ring state of after the row; the transitions grow after it.
-use Rattle.std.specs.Prelude.{ℕ, ◌+◌, ◌-◌, ◌*◌, Bool, true, false, cond, List, [], ◌∷◌, ◌++◌, Some, None, Ok, Err, Result, nat_lt}
+use Rattle.std.specs.Prelude.{ℕ, ◌+◌, ◌-◌, ◌*◌, Bool, true, false, cond, List, [], ◌∷◌, ◌++◌, Some, None, Option, Result, nat_lt}
 use Rattle.refusal.specs.declared.Refusal.{Refusal}
-use Rattle.frame.specs.declared.content.PortRole.{PortRole}
-use Rattle.frame.specs.declared.content.PortRole.TheVariants.{Primary, Secondary}
-use Rattle.frame.specs.declared.content.RingState.{RingState}
-use Rattle.frame.specs.declared.content.RingState.TheVariants.{Open, Closed}
+use Rattle.frame.specs.declared.field.PortRole.{PortRole}
+use Rattle.frame.specs.declared.field.PortRole.TheVariants.{Primary, Secondary}
+use Rattle.frame.specs.declared.field.RingState.{RingState}
+use Rattle.frame.specs.declared.field.RingState.TheVariants.{Open, Closed}
 use Rattle.switch.specs.Ports.{other, same_port}
 use Rattle.switch.specs.declared.port.Port.{Port}
 use Rattle.switch.specs.declared.port.Port.TheVariants.{One, Two}
@@ -14,18 +14,23 @@ use Rattle.switch.specs.declared.port.PortState.TheVariants.{Blocked, Forwarding
 use Rattle.outbox.specs.declared.message.Message.{Message}
 use Rattle.outbox.specs.declared.message.Message.TheVariants.{Test, TopologyChange}
 use Rattle.outbox.specs.Boxes.{Sent}
+use Rattle.settings.specs.Setups.{Setup}
 use Rattle.outbox.specs.Rows as rows
 use Rattle.outbox.specs.Rows.{◌▷◌, its, sets, clears}
-use Rattle.event.specs.Events.{Event, timer_of, is_on, run_out}
+use Rattle.event.specs.Events.{Event, timer_of, run_out}
 use Rattle.event.specs.Events as event
 use Rattle.event.specs.declared.Timer.{Timer}
 use Rattle.event.specs.declared.Timer.TheVariants as timer
 use Rattle.hearing.specs.Heards.{heard}
 use Rattle.hearing.specs.declared.Heard.{Heard}
 use Rattle.hearing.specs.declared.Heard.TheVariants as said
+use Rattle.machine.specs.Steps as steps
 use Rattle.manager.specs.declared.state.State.{State}
 use Rattle.manager.specs.declared.state.State.TheVariants.{AcStat1, PrmUp, ChkRc, ChkRo}
 use Rattle.manager.specs.Machines.{Machine, in_state, with_primary, with_misses, with_pending, with_test, with_topology, with_repeats, one_more_transition, numbered, timer_in}
+
+abbrev pub setup_of : Machine → Setup
+setup_of m = m.setup
 
 -- a manager in the middle of a row
 abbrev pub Row : Type 0
@@ -169,11 +174,11 @@ module _ (stamp : ℕ) where
   told ChkRc r = hurries r.machine.pending r
   told ChkRo r = hurries r.machine.pending r
 
-  abbrev pub hears : Heard → Row → Row
-  hears said.OwnTest r = home r.machine.state r
-  hears said.LinkFrame r = told r.machine.state r
-  hears (said.TopologyChange t) r = r
-  hears said.Nothing r = r
+  abbrev pub hears : Option Heard → Row → Row
+  hears (Some said.OwnTest) r = home r.machine.state r
+  hears (Some said.LinkFrame) r = told r.machine.state r
+  hears (Some (said.TopologyChange t)) r = r
+  hears None r = r
 
   abbrev pub turns : Bool → Port → Row → Row
   turns true p r = up r.machine.state (same_port p r.machine.primary) p r
@@ -192,10 +197,8 @@ module _ (stamp : ℕ) where
   fires timer.LinkDown r = r
   fires timer.Clear r = r
 
-  -- a run-out that is refused does nothing
   abbrev pub expires : Result Timer Refusal → Row → Row
-  expires (Err e) r = r
-  expires (Ok t) r = cond (is_on (timer_in r.machine t)) (fires t r) r
+  expires t r = steps.expires fires (timer_in r.machine) t r
 
   abbrev pub acts : Event → Row → Row
   acts (event.turns p b) r = turns b p r

@@ -1,5 +1,5 @@
 -- A client's state goes on agreeing with links, ports and timers.
-use Rattle.std.proofs.Common.{Bool, true, false, Ok, Err, Result, arith}
+use Rattle.std.proofs.Common.{Bool, true, false, Ok, Err, Option, Result, arith}
 use Rattle.refusal.specs.declared.Refusal.{Refusal}
 use Rattle.switch.specs.Meanings.{Meaning}
 use Rattle.switch.specs.declared.port.Port.{Port}
@@ -19,7 +19,7 @@ module _ (m : Machine) (w : Meaning) (l : Both Bool) (fit : ClientFit m w l) whe
   turned p true = grind arith
   turned p false = grind arith
 
-  listened : (h : Heard) → ClientFit (hears h (opened m w)).machine (hears h (opened m w)).switch l
+  listened : (h : Option Heard) → ClientFit (hears h (opened m w)).machine (hears h (opened m w)).switch l
   listened h = grind arith
 
   expired : (t : Result Timer Refusal) → ClientFit (expires t (opened m w)).machine (expires t (opened m w)).switch l

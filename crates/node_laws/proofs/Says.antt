@@ -1,21 +1,21 @@
 -- All that a node sends fits its fields, and so reads back.
 use Rattle.std.proofs.Common.{◌≡◌, ℕ, ◌+◌, ◌-◌, ◌*◌, ◌%◌, ◌<◌, ◌≤◌, true, List, [], ◌∷◌, sym, refl, ap, ◌∙◌, append-nil, arith}
 use Rattle.std.proofs.lemmas.Nat.{mul-le}
-use Rattle.std.proofs.lemmas.Bool.{and_parts}
 use Rattle.layout.specs.Elements.{in_values}
 use Rattle.layout.specs.Reading.{reading}
-use Rattle.frame.specs.declared.content.PortRole.TheVariants.{Primary, Secondary}
-use Rattle.frame.specs.declared.content.RingState.TheVariants.{Open, Closed}
+use Rattle.frame.specs.declared.field.PortRole.TheVariants.{Primary, Secondary}
+use Rattle.frame.specs.declared.field.RingState.TheVariants.{Open, Closed}
 use Rattle.kind.specs.Kinds.{span_of}
-use Rattle.writer.specs.Sent.{body_shown, body_kind, FitsBody}
+use Rattle.writer.specs.Sent.{body_shown, FitsBody}
+use Rattle.frame.specs.Shown.{content_kind}
 use Rattle.writer.proofs.ReadBack.{read_back}
 use Rattle.switch.specs.Meanings.{Meaning}
-use Rattle.settings.specs.Setups.{Setup, in_time, in_count}
-use Rattle.settings.proofs.Limits.{Times, Counts, in_time_lem, in_count_lem}
+use Rattle.settings.specs.Setups.{Setup, Within}
+use Rattle.settings.proofs.Limits.{Times, Counts, times_within, counts_within}
 use Rattle.event.specs.Events.{Event}
 use Rattle.outbox.specs.declared.message.Message.{Message}
 use Rattle.outbox.specs.declared.message.Message.TheVariants.{Test, TopologyChange, LinkDown, LinkUp}
-use Rattle.outbox.specs.Messages.{octets_of, body_of}
+use Rattle.outbox.specs.Messages.{octets_of, content_of}
 use Rattle.outbox.specs.Boxes.{Sent}
 use Rattle.outbox.specs.Rows.{opened}
 use Rattle.client.specs.Machines as client-machine
@@ -24,9 +24,11 @@ use Rattle.manager.specs.Machines as manager-machine
 use Rattle.manager.specs.Rows as manager-rows
 use Rattle.node.specs.declared.Role.{Role}
 use Rattle.node.specs.declared.Role.TheVariants as role
-use Rattle.node.specs.Nodes.{Node, client, manager, acts}
+use Rattle.node.specs.Nodes.{acts}
+use Rattle.node.specs.declared.Node.{Node}
+use Rattle.node.specs.declared.Node.TheVariants.{Client, Manager}
 use Rattle.node_laws.specs.Histories.{Happened, after}
-use Rattle.node_laws.specs.Saying.{Whole, ReadsBack, Every, AlwaysReadsBack}
+use Rattle.node_laws.specs.Saying.{ReadsBack, Every, AlwaysReadsBack}
 
 -- a message whose numbers fit their octets
 abbrev pub Fits : Message → Type 0
@@ -38,13 +40,13 @@ Fits (LinkUp i) = i < 65536
 abbrev pub Fitting : Sent → Type 0
 Fitting f = Fits f.message × (f.sequence < 65536)
 
-fits_body : (s : Setup) (m : Message) → Whole s → Fits m → FitsBody (body_of s m)
+fits_body : (s : Setup) (m : Message) → Within s → Fits m → FitsBody (content_of s m)
 fits_body s (Test r c n t) g f = (g.address, g.priority, f.0, f.1)
 fits_body s (TopologyChange i) g f = (g.address, g.priority, f)
 fits_body s (LinkDown i) g f = (g.address, f)
 fits_body s (LinkUp i) g f = (g.address, f)
 
-in_values_lem : (s : Setup) (m : Message) → s.priority % 0x1000 ≡ 0 → in_values (body_shown (body_of s m)) ≡ true
+in_values_lem : (s : Setup) (m : Message) → s.priority % 0x1000 ≡ 0 → in_values (body_shown (content_of s m)) ≡ true
 in_values_lem s (Test Primary Open n t) e = rw e refl
 in_values_lem s (Test Primary Closed n t) e = rw e refl
 in_values_lem s (Test Secondary Open n t) e = rw e refl
@@ -53,19 +55,19 @@ in_values_lem s (TopologyChange i) e = rw e refl
 in_values_lem s (LinkDown i) e = refl
 in_values_lem s (LinkUp i) e = refl
 
-short : (s : Setup) (m : Message) → 14 + span_of (body_kind (body_of s m)) + 0 ≤ 60
+short : (s : Setup) (m : Message) → 14 + span_of (content_kind (content_of s m)) + 0 ≤ 60
 short s (Test r c n t) = omega arith
 short s (TopologyChange i) = omega arith
 short s (LinkDown i) = omega arith
 short s (LinkUp i) = omega arith
 
-pub said_back : (s : Setup) (f : Sent) → Whole s → Fitting f → ReadsBack s f
+pub said_back : (s : Setup) (f : Sent) → Within s → Fitting f → ReadsBack s f
 unfolding octets_of
 said_back s f g a =
-    let e = (in_count_lem s (and_parts (in_time s) (in_count s) g.limits).1).multiple in
-    ap reading (sym (append-nil (octets_of s f.message f.sequence))) ∙ read_back s.address (body_of s f.message) f.sequence s.domain 0 g.address (fits_body s f.message g a.0) a.1 g.domain (in_values_lem s f.message e) (short s f.message)
+    let e = (counts_within s g.limits).multiple in
+    ap reading (sym (append-nil (octets_of s f.message f.sequence))) ∙ read_back s.address (content_of s f.message) f.sequence s.domain 0 g.address (fits_body s f.message g a.0) a.1 g.domain (in_values_lem s f.message e) (short s f.message)
 
-all_back : (s : Setup) (fs : List Sent) → Whole s → Every Fitting fs → Every (ReadsBack s) fs
+all_back : (s : Setup) (fs : List Sent) → Within s → Every Fitting fs → Every (ReadsBack s) fs
 all_back s [] g a = tt
 all_back s (f ∷ fs) g a = (said_back s f g a.0, all_back s fs g a.1)
 
@@ -106,18 +108,18 @@ client_fits e s m w z t = grind arith
 
 -- for both
 abbrev pub Sized : Setup → Node → Type 0
-Sized s (client m) = ClientSized s m
-Sized s (manager m) = ManagerSized s m
+Sized s (Client m) = ClientSized s m
+Sized s (Manager m) = ManagerSized s m
 
 pub sized : (stamp : ℕ) (e : Event) (s : Setup) (n : Node) (w : Meaning) → Counts s → Sized s n → Sized s (acts stamp e (opened n w)).machine
-sized stamp e s (client m) w c z = client_sized e s m w c.links.1 z
-sized stamp e s (manager m) w c z = manager_sized stamp e s m w c.changes.1 z
+sized stamp e s (Client m) w c z = client_sized e s m w c.links.1 z
+sized stamp e s (Manager m) w c z = manager_sized stamp e s m w c.changes.1 z
 
 pub fitting : (stamp : ℕ) (e : Event) (s : Setup) (n : Node) (w : Meaning) → stamp < 4294967296 → Times s → Counts s → Sized s n → Every Fitting (acts stamp e (opened n w)).sent
-fitting stamp e s (client m) w h t c z =
+fitting stamp e s (Client m) w h t c z =
     let l : m.left - 1 ≤ 10 = omega (arith, z.left) in
     client_fits e s m w z (record { all_up = times_fit _ _ c.links.1 t.up.1; all_down = times_fit _ _ c.links.1 t.down.1; less_up = times_fit _ _ l t.up.1; less_down = times_fit _ _ l t.down.1 })
-fitting stamp e s (manager m) w h t c z =
+fitting stamp e s (Manager m) w h t c z =
     manager_fits stamp e s m w h z (times_fit _ _ c.changes.1 t.topology.1) (times_fit _ _ z.repeats t.topology.1)
 
 always_sized : (r : Role) (s : Setup) (w : Meaning) (h : List Happened) → Counts s → Sized s (after r s w h).machine
@@ -131,6 +133,5 @@ nothing_sent r s w = tt
 pub always_reads_back : AlwaysReadsBack
 always_reads_back r s w [] g t = nothing_sent r s w
 always_reads_back r s w (e ∷ h) g t =
-    let q = and_parts (in_time s) (in_count s) g.limits in
-    let c = in_count_lem s q.1 in
-    all_back s _ g (fitting e.stamp e.event s (after r s w h).machine (after r s w h).switch t.0 (in_time_lem s q.0) c (always_sized r s w h c))
+    let c = counts_within s g.limits in
+    all_back s _ g (fitting e.stamp e.event s (after r s w h).machine (after r s w h).switch t.0 (times_within s g.limits) c (always_sized r s w h c))

@@ -5,7 +5,8 @@ use Rattle.settings.specs.Setups.{Setup}
 use Rattle.event.specs.Events.{Event}
 use Rattle.outbox.specs.Rows.{Row, opened, quiet}
 use Rattle.node.specs.declared.Role.{Role}
-use Rattle.node.specs.Nodes.{Node, started, acts}
+use Rattle.node.specs.Nodes.{started, acts}
+use Rattle.node.specs.declared.Node.{Node}
 use Rattle.node_laws.specs.Links.{Both, both, told}
 
 -- an event, with the time stamp that it came with

@@ -1,11 +1,10 @@
 // What a node says in a frame; its address, domain and priority come from its settings.
 ghost use Rattle.std.specs.Prelude.{◌≡◌, ◌++◌, drop};
-ghost use Rattle.settings.specs.Setups.{setup};
-ghost use Rattle.outbox.specs.Messages.{link_of, body_of, outgoing_of, octets_of, total_of};
+ghost use Rattle.outbox.specs.Messages.{link_of, content_of, outgoing_of, octets_of, total_of};
 
-use frame::{PortRole, RingState};
-use settings::Settings;
-use writer::{Body, LinkBody, Outgoing};
+use frame::{Content, Frame, Link, PortRole, RingState, Test, TopologyChange};
+use settings::{Draft, Settings};
+use writer::Outgoing;
 
 #[derive(Clone, Copy)]
 pub enum Message {
@@ -38,65 +37,63 @@ impl Message {
     }
 
     // Writes the frame, and answers its total; what stands past that stays.
+    #[tactic(auto, using(crate::proofs::Writes::after_is))]
     pub fn write(self, settings: &Settings, sequence: u16, out: &mut [u8; 60]) -> usize
         ensures total { result ≡ total_of self }
-        ensures octets { out.new ≡ octets_of (setup settings.now) self sequence ++ drop (total_of self) out.old }
+        ensures octets { out.new ≡ octets_of settings.now self sequence ++ drop (total_of self) out.old }
     {
-        let frame = self.outgoing(settings, sequence);
+        let frame = self.outgoing(&settings.asked, sequence);
         // never refused: settings have a priority of the right values, and a place has 60 octets
         let _ = writer::write(&frame, out);
         self.total()
     }
 
-    fn outgoing(self, settings: &Settings, sequence: u16) -> Outgoing
-        ensures { result ≡ outgoing_of (setup settings.now) self sequence }
+    fn outgoing(self, asked: &Draft, sequence: u16) -> Outgoing
+        ensures { result ≡ outgoing_of asked.now self sequence }
     {
-        let source = settings.address;
-        let domain = settings.domain;
-        let body = self.body(settings);
-        Outgoing {
-            source,
-            body,
+        Frame {
+            source: asked.address,
+            content: self.content(asked),
             sequence,
-            domain,
+            domain: asked.domain,
         }
     }
 
-    fn body(self, settings: &Settings) -> Body
-        ensures { result ≡ body_of (setup settings.now) self }
+    fn content(self, asked: &Draft) -> Content<[u8; 6]>
+        ensures { result ≡ content_of asked.now self }
     {
-        let sender = settings.address;
-        let priority = settings.priority;
+        let sender = asked.address;
+        let priority = asked.priority;
         match self {
             Message::Test {
                 role,
                 ring,
                 transitions,
                 stamp,
-            } => Body::Test {
+            } => Content::Test(Test {
                 priority,
                 sender,
                 role,
                 state: ring,
                 transitions,
                 stamp,
-            },
-            Message::TopologyChange { interval } => Body::TopologyChange {
+            }),
+            Message::TopologyChange { interval } => Content::TopologyChange(TopologyChange {
                 priority,
                 sender,
                 interval,
-            },
-            Message::LinkDown { interval } => Body::LinkDown(link_body(sender, interval)),
-            Message::LinkUp { interval } => Body::LinkUp(link_body(sender, interval)),
+            }),
+            Message::LinkDown { interval } => Content::LinkDown(link(sender, interval)),
+            Message::LinkUp { interval } => Content::LinkUp(link(sender, interval)),
         }
     }
 }
 
 // Every client says that its port is the secondary one, and that it can block.
-fn link_body(sender: [u8; 6], interval: u16) -> LinkBody
+fn link(sender: [u8; 6], interval: u16) -> Link<[u8; 6]>
     ensures { result ≡ link_of sender interval }
 {
-    LinkBody {
+    Link {
         sender,
         role: PortRole::Secondary,
         interval,

@@ -1,13 +1,13 @@
 // Four lent places for frames, of which the first `count` are taken.
 ghost use Rattle.std.specs.Prelude.{◌≡◌};
-ghost use Rattle.settings.specs.Setups.{setup};
 ghost use Rattle.outbox.specs.Boxes.{written, pushed, emptied, fresh, Laid};
 
 use crate::message::Message;
 use settings::Settings;
 use switch::Port;
 
-// A place for one frame: its octets up to `total`, and the port that it leaves by.
+// A place for one frame: its octets up to `total`, and the port that it leaves by. Places are lent, and their old octets
+// stay: hence an array with a total, and in the outbox an array of places with a count.
 #[derive(Clone, Copy)]
 pub struct Place {
     pub octets: [u8; 60],
@@ -24,7 +24,7 @@ pub struct Outbox {
 impl Place {
     // Takes a frame; what stands past its total stays.
     pub fn hold(&mut self, settings: &Settings, port: Port, message: Message, sequence: u16)
-        ensures { self.new ≡ written (setup settings.now) (record { port = port; message = message; sequence = sequence }) self.old }
+        ensures { self.new ≡ written settings.now (record { port = port; message = message; sequence = sequence }) self.old }
     {
         self.total = message.write(settings, sequence, &mut self.octets);
         self.port = port;
@@ -33,6 +33,7 @@ impl Place {
 
 impl Outbox {
     // Four places of zero octets, none of them taken.
+    #[tactic(auto, using(crate::proofs::Lays::lays))]
     pub fn new() -> Outbox
         ensures made { result ≡ fresh }
         ensures laid { Laid }
@@ -56,9 +57,11 @@ impl Outbox {
     }
 
     // Puts a frame into the next place; where all four are taken, nowhere.
+    #[tactic(auto, unfolding(crate::specs::Boxes::pushed))]
     pub fn push(&mut self, settings: &Settings, port: Port, message: Message, sequence: u16)
-        ensures { self.new ≡ pushed (setup settings.now) (record { port = port; message = message; sequence = sequence }) self.old }
+        ensures { self.new ≡ pushed settings.now (record { port = port; message = message; sequence = sequence }) self.old }
     {
+        // by index: the proof did not close with `get_mut`, which says nothing of an array field afterwards
         if self.count < 4 {
             self.places[self.count].hold(settings, port, message, sequence);
             self.count += 1;

@@ -8,7 +8,9 @@ use Rattle.settings.proofs.Limits.{Counts}
 use Rattle.event.specs.declared.Timer.TheVariants as timer
 use Rattle.client.specs.Machines as client-machine
 use Rattle.manager.specs.Machines as manager-machine
-use Rattle.node.specs.Nodes.{Node, client, manager, timer_in}
+use Rattle.node.specs.Nodes.{timer_in}
+use Rattle.node.specs.declared.Node.{Node}
+use Rattle.node.specs.declared.Node.TheVariants.{Client, Manager}
 use Rattle.node_laws.specs.Links.{Both}
 use Rattle.node_laws.specs.Clients.{ClientFit}
 use Rattle.node_laws.specs.Managers.{ManagerFit, is_open}
@@ -34,8 +36,8 @@ client_settled : (m : client-machine.Machine) (w : Meaning) (l : Both Bool) → 
 client_settled m w l fit a b idle = grind arith
 
 other_settled : (s : Setup) (k : ℕ) (x : Node) (w : Meaning) (l : Both Bool) → NodeFit s (suc k) x w l → l.one ≡ true → l.two ≡ true → timer_in x timer.LinkUp ≡ None → (is_forwarding w.first ≡ true) × (is_forwarding w.second ≡ true)
-other_settled s k (client m) w l f a b idle = client_settled m w l f.1 a b idle
-other_settled s k (manager m) w l f a b idle = absurd f.0
+other_settled s k (Client m) w l f a b idle = client_settled m w l f.1 a b idle
+other_settled s k (Manager m) w l f a b idle = absurd f.0
 
 -- a manager with both links up that is not ring-open forwards by one port
 abbrev OneOf : Meaning → Type 0
@@ -48,12 +50,12 @@ manager_opened : (m : manager-machine.Machine) (w : Meaning) (l : Both Bool) →
 manager_opened m w l fit e = grind arith
 
 first_closed : (s : Setup) (x : Node) (w : Meaning) (l : Both Bool) → NodeFit s 0 x w l → l.one ≡ true → l.two ≡ true → open_in x ≡ false → OneOf w
-first_closed s (manager m) w l f a b shut = manager_closed m w l f.1 a b shut
-first_closed s (client m) w l f a b shut = absurd f.0
+first_closed s (Manager m) w l f a b shut = manager_closed m w l f.1 a b shut
+first_closed s (Client m) w l f a b shut = absurd f.0
 
 first_opened : (s : Setup) (x : Node) (w : Meaning) (l : Both Bool) → NodeFit s 0 x w l → open_in x ≡ true → (is_forwarding w.first ≡ true) × (is_forwarding w.second ≡ true)
-first_opened s (manager m) w l f e = manager_opened m w l f.1 e
-first_opened s (client m) w l f e = absurd f.0
+first_opened s (Manager m) w l f e = manager_opened m w l f.1 e
+first_opened s (Client m) w l f e = absurd f.0
 
 turn_moves : (n k : ℕ) → k < n → 2 ≤ n → turn n k 1 ≡ k → ⊥
 turn_moves n k k< h2 e = grind (arith, nat_tests)

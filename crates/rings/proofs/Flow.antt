@@ -1,12 +1,12 @@
 -- No test frame is made, kept or lost unseen, and no more than 128 frames wait.
 use Rattle.std.proofs.Common.{◌≡◌, ℕ, zero, suc, ◌+◌, ◌<◌, ◌≤◌, Bool, true, ◌&&◌, ltb, List, [], ◌∷◌, ◌++◌, sym, refl, ap, subst, inl, inr, arith}
-use Rattle.std.proofs.lemmas.Bool.{and_parts, cases_eq}
+use Rattle.std.proofs.lemmas.Bool.{cases_eq}
 use Rattle.std.proofs.lemmas.Bool.Decides.{nat_tests}
 use Rattle.switch.specs.declared.port.Port.{Port}
 use Rattle.switch.specs.declared.port.Port.TheVariants.{One, Two}
 use Rattle.switch.specs.Meanings.{Meaning}
-use Rattle.settings.specs.Setups.{Setup, in_time, in_count}
-use Rattle.settings.proofs.Limits.{Counts, in_count_lem}
+use Rattle.settings.specs.Setups.{Setup}
+use Rattle.settings.proofs.Limits.{Counts, counts_within}
 use Rattle.rings.specs.Places.{change, sum_to}
 use Rattle.rings.specs.Traffic.{Frame, Traffic, Queues, Out, tests, any, weigh, requeue, held, join, drop, born, rest}
 use Rattle.rings.specs.Rings.{Ring, settings_at}
@@ -48,7 +48,7 @@ sum_zero zero = refl
 sum_zero (suc n) = omega (arith, sum_zero n)
 
 pub counts_of : (s : Setup) (n : ℕ) → Limits s n → Counts (settings_at s 0)
-counts_of s n lim = in_count_lem (settings_at s 0) (and_parts (in_time (settings_at s 0)) (in_count (settings_at s 0)) lim.settings).1
+counts_of s n lim = counts_within (settings_at s 0) lim.settings
 
 -- with a frame of weight x in hand: what waited at first and what was sent is what has arrived, is lost, waits or is in hand
 abbrev Even : ℕ → ℕ → ℕ → Traffic → Type 0

@@ -16,7 +16,9 @@ use Rattle.outbox.specs.Rows.{opened}
 use Rattle.manager.specs.Machines.{Machine}
 use Rattle.manager.specs.declared.state.State.{State}
 use Rattle.manager.specs.declared.state.State.TheVariants.{AcStat1, PrmUp, ChkRc, ChkRo}
-use Rattle.node.specs.Nodes.{Node, client, manager, acts, passed_by, setup_of}
+use Rattle.node.specs.Nodes.{acts, passed_by, setup_of}
+use Rattle.node.specs.declared.Node.{Node}
+use Rattle.node.specs.declared.Node.TheVariants.{Client, Manager}
 use Rattle.node_laws.specs.Links.{Both}
 use Rattle.node_laws.specs.Managers.{ManagerFit, is_open}
 use Rattle.rings.specs.Places.{next, link_at, landing}
@@ -41,8 +43,8 @@ owed m ChkRc = m.misses
 owed m ChkRo = m.setup.test_count
 
 abbrev owes : Node → ℕ
-owes (client m) = 0
-owes (manager m) = owed m m.state
+owes (Client m) = 0
+owes (Manager m) = owed m m.state
 
 -- a run-out of the test timer costs one
 abbrev cost : Event → ℕ
@@ -50,15 +52,15 @@ cost (turns p b) = 0
 cost (hears p xs) = 0
 cost (expires t) = cond (eqb t 0) 1 0
 
-manager_owes : (stamp : ℕ) (e : Event) (m : Machine) (w : Meaning) → owes (acts stamp e (opened (manager m) w)).machine ≤ owes (manager m) + cost e
+manager_owes : (stamp : ℕ) (e : Event) (m : Machine) (w : Meaning) → owes (acts stamp e (opened (Manager m) w)).machine ≤ owes (Manager m) + cost e
 manager_owes stamp e m w = grind (arith, nat_tests)
 
 told_owes : (stamp : ℕ) (e : Event) (x : Node) (w : Meaning) → owes (acts stamp e (opened x w)).machine ≤ owes x + cost e
-told_owes stamp e (client m) w = omega arith
-told_owes stamp e (manager m) w = manager_owes stamp e m w
+told_owes stamp e (Client m) w = omega arith
+told_owes stamp e (Manager m) w = manager_owes stamp e m w
 
 -- an own Test leaves nothing owed
-manager_home : (stamp : ℕ) (p : Port) (xs : List ℕ) (m : Machine) (w : Meaning) → heard m.setup xs ≡ OwnTest → owes (acts stamp (hears p xs) (opened (manager m) w)).machine ≡ 0
+manager_home : (stamp : ℕ) (p : Port) (xs : List ℕ) (m : Machine) (w : Meaning) → heard m.setup xs ≡ Some OwnTest → owes (acts stamp (hears p xs) (opened (Manager m) w)).machine ≡ 0
 manager_home stamp p xs m w e = grind arith
 
 -- nor does a link that comes up
@@ -66,24 +68,24 @@ abbrev at : Port → Both Bool → Bool
 at One l = l.one
 at Two l = l.two
 
-manager_second : (stamp : ℕ) (m : Machine) (w : Meaning) (l : Both Bool) (p : Port) → ManagerFit m w l → at p l ≡ false → owes (acts stamp (turns p true) (opened (manager m) w)).machine ≡ 0
+manager_second : (stamp : ℕ) (m : Machine) (w : Meaning) (l : Both Bool) (p : Port) → ManagerFit m w l → at p l ≡ false → owes (acts stamp (turns p true) (opened (Manager m) w)).machine ≡ 0
 manager_second stamp m w l p fit down = grind arith
 
 node_second : (s : Setup) (stamp : ℕ) (x : Node) (w : Meaning) (l : Both Bool) (p : Port) → NodeFit s 0 x w l → at p l ≡ false → owes (acts stamp (turns p true) (opened x w)).machine ≡ 0
-node_second s stamp (manager m) w l p f down = manager_second stamp m w l p f.1 down
-node_second s stamp (client m) w l p f down = absurd f.0
+node_second s stamp (Manager m) w l p f down = manager_second stamp m w l p f.1 down
+node_second s stamp (Client m) w l p f down = absurd f.0
 
-node_home : (s : Setup) (stamp : ℕ) (p : Port) (xs : List ℕ) (x : Node) (w : Meaning) → Right s 0 x → heard (settings_at s 0) xs ≡ OwnTest → owes (acts stamp (hears p xs) (opened x w)).machine ≡ 0
-node_home s stamp p xs (manager m) w g e = manager_home stamp p xs m w (ap (λ (u : Setup). heard u xs) g.its ∙ e)
-node_home s stamp p xs (client m) w g e = absurd g
+node_home : (s : Setup) (stamp : ℕ) (p : Port) (xs : List ℕ) (x : Node) (w : Meaning) → Right s 0 x → heard (settings_at s 0) xs ≡ Some OwnTest → owes (acts stamp (hears p xs) (opened x w)).machine ≡ 0
+node_home s stamp p xs (Manager m) w g e = manager_home stamp p xs m w (ap (λ (u : Setup). heard u xs) g.its ∙ e)
+node_home s stamp p xs (Client m) w g e = absurd g
 
 abbrev is_manager : Node → Bool
-is_manager (client m) = false
-is_manager (manager m) = true
+is_manager (Client m) = false
+is_manager (Manager m) = true
 
 others_clients : (s : Setup) (k : ℕ) (x : Node) → Right s (suc k) x → is_manager x ≡ false
-others_clients s k (client m) g = refl
-others_clients s k (manager m) g = absurd g
+others_clients s k (Client m) g = refl
+others_clients s k (Manager m) g = absurd g
 
 count_le : (arr : ℕ) (sec ran : Bool) (o o' m : ℕ) → (0 < arr → o' ≡ 0) → (sec ≡ true → o' ≡ 0) → o' ≤ o + cond ran 1 0 → o ≤ m → o' ≤ cond (ltb 0 arr || sec) 0 (m + cond ran 1 0)
 count_le arr sec ran o o' m home up more old = grind (arith, nat_tests)
@@ -133,20 +135,20 @@ module _ (n : ℕ) where
 
   -- a test frame arrives only at a manager
   arrives : (l : ℕ → Bool) (k : ℕ) (x : Node) (o : Option Port) (f : Frame) (t : Traffic) → t.arrived ≡ 0 → 0 < (taken n l k x o f t).arrived → (is_manager x ≡ true) × (is_test f.octets ≡ true)
-  arrives l k (manager m) o f t none h = (refl, counts (is_test f.octets) (omega arith))
+  arrives l k (Manager m) o f t none h = (refl, counts (is_test f.octets) (omega arith))
     where
       counts : (b : Bool) → 0 < cond b 1 0 → b ≡ true
       counts b h = grind arith
-  arrives l k (client m) (Some q) f t none h = absurd (stays (l (link_at n k q)) h)
+  arrives l k (Client m) (Some q) f t none h = absurd (stays (l (link_at n k q)) h)
     where
       stays : (b : Bool) → 0 < (cond b (join q (link_at n k q) f t) (drop f t)).arrived → ⊥
       stays true h = omega (arith, none)
       stays false h = omega (arith, none)
-  arrives l k (client m) None f t none h = absurd (omega (arith, none))
+  arrives l k (Client m) None f t none h = absurd (omega (arith, none))
 
   module _ (s : Setup) where
     -- where it does, nothing is owed then
-    home_at : (k : ℕ) (q : Port) (xs : List ℕ) (r : Ring) → Right s k (r.nodes k) → is_manager (r.nodes k) ≡ true → heard (settings_at s 0) xs ≡ OwnTest → owes ((tell n k (hears q xs) r).nodes 0) ≡ 0
+    home_at : (k : ℕ) (q : Port) (xs : List ℕ) (r : Ring) → Right s k (r.nodes k) → is_manager (r.nodes k) ≡ true → heard (settings_at s 0) xs ≡ Some OwnTest → owes ((tell n k (hears q xs) r).nodes 0) ≡ 0
     home_at zero q xs r g is e = node_home s r.expired q xs (r.nodes 0) (r.switches 0) g e
     home_at (suc k) q xs r g is e = absurd (both_ways (is_manager (r.nodes (suc k))) (others_clients s k (r.nodes (suc k)) g) is)
 
@@ -227,11 +229,11 @@ late n s w lim [] = omega arith
 late n s w lim (x ∷ h) = let c = counts_of s n lim in step_late n s c x (after n s w h) (run_outs n s w h) lim.least (sound n s c w h lim.least) (all_own n s w lim h) (late n s w lim h)
 
 open_owes : (s : Setup) (x : Node) → Right s 0 x → open_in x ≡ true → owes x ≡ s.test_count
-open_owes s (manager m) g e = manager_open m.state e ∙ ap (λ (u : Setup). u.test_count) g.its
+open_owes s (Manager m) g e = manager_open m.state e ∙ ap (λ (u : Setup). u.test_count) g.its
   where
     manager_open : (t : State) → is_open t ≡ true → owed m t ≡ m.setup.test_count
     manager_open t e = grind arith
-open_owes s (client m) g e = absurd g
+open_owes s (Client m) g e = absurd g
 
 pub open_is_late : OpenIsLate
 open_is_late n s w lim h e = let c = counts_of s n lim in omega (arith, late n s w lim h, open_owes s ((after n s w h).nodes 0) (sound n s c w h lim.least 0 (omega (arith, lim.least))).0 e)

@@ -13,7 +13,9 @@ use Rattle.client.specs.Machines as client-machine
 use Rattle.client.specs.Rows as client-rows
 use Rattle.manager.specs.Machines as manager-machine
 use Rattle.manager.specs.Rows as manager-rows
-use Rattle.node.specs.Nodes.{Node, client, manager, acts}
+use Rattle.node.specs.Nodes.{acts}
+use Rattle.node.specs.declared.Node.{Node}
+use Rattle.node.specs.declared.Node.TheVariants.{Client, Manager}
 use Rattle.node_laws.specs.Links.{Both}
 use Rattle.node_laws.specs.Clients.{ClientFit}
 use Rattle.node_laws.specs.Managers.{ManagerFit}
@@ -41,8 +43,8 @@ both_forward w = is_forwarding w.first && is_forwarding w.second
 
 -- the manager is ring-open exactly while both its ports forward
 open_by : (s : Setup) (x : Node) (w : Meaning) (l : Both Bool) → NodeFit s 0 x w l → both_forward w ≡ open_in x
-open_by s (manager m) w l f = both_forward_lem m w l f.1
-open_by s (client m) w l f = absurd f.0
+open_by s (Manager m) w l f = both_forward_lem m w l f.1
+open_by s (Client m) w l f = absurd f.0
 
 -- a node that is told of a new link at port 2 does not forward by both ports
 manager_blocks : (stamp : ℕ) (m : manager-machine.Machine) (w : Meaning) (l : Both Bool) → ManagerFit m w l → l.two ≡ false → both_forward (manager-rows.acts stamp (turns Two true) (opened m w)).switch ≡ false
@@ -52,8 +54,8 @@ client_blocks : (m : client-machine.Machine) (w : Meaning) (l : Both Bool) → C
 client_blocks m w l fit e = grind arith
 
 blocks : (s : Setup) (stamp k : ℕ) (x : Node) (w : Meaning) (l : Both Bool) → NodeFit s k x w l → l.two ≡ false → both_forward (acts stamp (turns Two true) (opened x w)).switch ≡ false
-blocks s stamp k (manager m) w l f e = manager_blocks stamp m w l f.1 e
-blocks s stamp k (client m) w l f e = client_blocks m w l f.1 e
+blocks s stamp k (Manager m) w l f e = manager_blocks stamp m w l f.1 e
+blocks s stamp k (Client m) w l f e = client_blocks m w l f.1 e
 
 module _ (n : ℕ) where
   loop_ports : (l : ℕ → Bool) (w : ℕ → Meaning) → 2 ≤ n → all_to n (passing n l w) ≡ true → (k : ℕ) → k < n → both_forward (w k) ≡ true

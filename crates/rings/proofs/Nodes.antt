@@ -5,7 +5,9 @@ use Rattle.settings.specs.Setups.{Setup}
 use Rattle.settings.proofs.Limits.{Counts}
 use Rattle.event.specs.Events.{Event}
 use Rattle.outbox.specs.Rows.{opened}
-use Rattle.node.specs.Nodes.{Node, client, manager, acts, started}
+use Rattle.node.specs.Nodes.{acts, started}
+use Rattle.node.specs.declared.Node.{Node}
+use Rattle.node.specs.declared.Node.TheVariants.{Client, Manager}
 use Rattle.node_laws.specs.Links.{Both, told}
 use Rattle.node_laws.specs.Tables.{Fit}
 use Rattle.node_laws.proofs.Fits.{kept}
@@ -14,16 +16,16 @@ use Rattle.rings.specs.Rings.{settings_at, seat}
 
 -- node k is what it is at its place, and keeps its settings
 abbrev pub Right : Setup → ℕ → Node → Type 0
-Right s zero (manager m) = ManagerSized (settings_at s 0) m
-Right s zero (client m) = ⊥
-Right s (suc k) (client m) = ClientSized (settings_at s (suc k)) m
-Right s (suc k) (manager m) = ⊥
+Right s zero (Manager m) = ManagerSized (settings_at s 0) m
+Right s zero (Client m) = ⊥
+Right s (suc k) (Client m) = ClientSized (settings_at s (suc k)) m
+Right s (suc k) (Manager m) = ⊥
 
 pub right_kept : (s : Setup) (c : Counts (settings_at s 0)) (stamp k : ℕ) (e : Event) (x : Node) (w : Meaning) → Right s k x → Right s k (acts stamp e (opened x w)).machine
-right_kept s c stamp zero e (manager m) w h = manager_sized stamp e (settings_at s 0) m w c.changes.1 h
-right_kept s c stamp zero e (client m) w h = absurd h
-right_kept s c stamp (suc k) e (client m) w h = client_sized e (settings_at s (suc k)) m w c.links.1 h
-right_kept s c stamp (suc k) e (manager m) w h = absurd h
+right_kept s c stamp zero e (Manager m) w h = manager_sized stamp e (settings_at s 0) m w c.changes.1 h
+right_kept s c stamp zero e (Client m) w h = absurd h
+right_kept s c stamp (suc k) e (Client m) w h = client_sized e (settings_at s (suc k)) m w c.links.1 h
+right_kept s c stamp (suc k) e (Manager m) w h = absurd h
 
 pub right_started : (s : Setup) (c : Counts (settings_at s 0)) (k : ℕ) → Right s k (started (seat k) (settings_at s k))
 right_started s c zero = record { its = refl; repeats = omega (arith, c.changes.1); transitions = omega arith; sequence = omega arith }

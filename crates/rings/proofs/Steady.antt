@@ -8,7 +8,9 @@ use Rattle.settings.specs.Setups.{Setup}
 use Rattle.settings.proofs.Limits.{Counts}
 use Rattle.event.specs.Events.{Event, turns, hears, expires}
 use Rattle.outbox.specs.Rows.{opened}
-use Rattle.node.specs.Nodes.{Node, client, manager, setup_of, acts, passed_by}
+use Rattle.node.specs.Nodes.{setup_of, acts, passed_by}
+use Rattle.node.specs.declared.Node.{Node}
+use Rattle.node.specs.declared.Node.TheVariants.{Client, Manager}
 use Rattle.rings.specs.Places.{next, link_at, landing}
 use Rattle.rings.specs.Traffic.{Frame, Traffic, Out, join, drop, home, send, emit, uncork, purge}
 use Rattle.rings.specs.Rings.{Ring, settings_at, with_flow, with_link, outs, acted, tell, ends, taken, bring, let_go}
@@ -47,9 +49,9 @@ module _ (n : ℕ) (s : Setup) (c : Counts (settings_at s 0)) where
     emits l k (o ∷ os) t h all q = emits l k os (send n l o.port (link_at n k o.port) o.frame t) h all.1 (S.sends l o.port (link_at n k o.port) o.frame t (at_below n k o.port h) all.0 q)
 
     takens : (l : ℕ → Bool) (k : ℕ) (x : Node) (o : Option Port) (f : Frame) (t : Traffic) → k < n → H f t → Q (taken n l k x o f t)
-    takens l k (manager m) o f t h q = S.homes f t q
-    takens l k (client m) (Some p) f t h q = either Q (l (link_at n k p)) (join p (link_at n k p) f t) (drop f t) (λ _. S.joins p (link_at n k p) f t (at_below n k p h) q) (S.drops f t q)
-    takens l k (client m) None f t h q = S.drops f t q
+    takens l k (Manager m) o f t h q = S.homes f t q
+    takens l k (Client m) (Some p) f t h q = either Q (l (link_at n k p)) (join p (link_at n k p) f t) (drop f t) (λ _. S.joins p (link_at n k p) f t (at_below n k p h) q) (S.drops f t q)
+    takens l k (Client m) None f t h q = S.drops f t q
 
     tells : (k : ℕ) (e : Event) (r : Ring) → k < n → RightRing r → Q r.flow → Q (tell n k e r).flow
     tells k e r h g q = emits r.links k (outs (setup_of (r.nodes k)) (acted k e r).sent) r.flow h (S.makes r.expired k e (r.nodes k) (r.switches k) h g.0 (g.1 k h)) q

@@ -3,7 +3,9 @@ use Rattle.std.specs.Prelude.{◌≡◌, ℕ, ◌+◌, ◌-◌, ◌<◌, ◌≤�
 use Rattle.switch.specs.Meanings.{Meaning}
 use Rattle.settings.specs.Setups.{Setup, within}
 use Rattle.event.specs.declared.Timer.TheVariants as timer
-use Rattle.node.specs.Nodes.{Node, client, manager, timer_in}
+use Rattle.node.specs.Nodes.{timer_in}
+use Rattle.node.specs.declared.Node.{Node}
+use Rattle.node.specs.declared.Node.TheVariants.{Client, Manager}
 use Rattle.node_laws.specs.Managers.{is_open}
 use Rattle.rings.specs.Traffic.{tests, any, held}
 use Rattle.rings.specs.Rings.{Ring, settings_at}
@@ -18,8 +20,8 @@ pub record Limits (s : Setup) (n : ℕ) : Type 0 where
 
 -- whether the manager is ring-open
 abbrev pub open_in : Node → Bool
-open_in (client m) = false
-open_in (manager m) = is_open m.state
+open_in (Client m) = false
+open_in (Manager m) = is_open m.state
 
 abbrev pub ring_open : Ring → Bool
 ring_open r = open_in (r.nodes 0)

@@ -11,7 +11,9 @@ use Rattle.outbox.specs.Boxes.{Sent}
 use Rattle.outbox.specs.Rows.{Row, opened, quiet}
 use Rattle.node.specs.declared.Role.{Role}
 use Rattle.node.specs.declared.Role.TheVariants as role
-use Rattle.node.specs.Nodes.{Node, client, manager, setup_of, started, acts, passed_by}
+use Rattle.node.specs.Nodes.{setup_of, started, acts, passed_by}
+use Rattle.node.specs.declared.Node.{Node}
+use Rattle.node.specs.declared.Node.TheVariants.{Client, Manager}
 use Rattle.rings.specs.Places.{change, next, link_at, landing}
 use Rattle.rings.specs.Traffic.{Frame, Traffic, traffic, Out, emit, pass_on, home, drop, uncork}
 
@@ -76,9 +78,9 @@ module _ (n : ℕ) where
 
   -- a frame in hand at node k: a manager takes it home, a client passes it on by port o, if there is one
   abbrev pub taken : (ℕ → Bool) → ℕ → Node → Option Port → Frame → Traffic → Traffic
-  taken l k (manager m) o f t = home f t
-  taken l k (client m) (Some q) f t = pass_on l q (link_at n k q) f t
-  taken l k (client m) None f t = drop f t
+  taken l k (Manager m) o f t = home f t
+  taken l k (Client m) (Some q) f t = pass_on l q (link_at n k q) f t
+  taken l k (Client m) None f t = drop f t
 
   -- a frame comes to node k by its port q
   abbrev pub comes : ℕ → Port → Frame → Ring → Ring

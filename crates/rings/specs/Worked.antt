@@ -4,7 +4,8 @@ use Rattle.switch.specs.Meanings.{Meaning}
 use Rattle.settings.specs.Setups.{Setup}
 use Rattle.manager.specs.declared.state.State.{State}
 use Rattle.manager.specs.declared.state.State.TheVariants.{AcStat1, PrmUp, ChkRc, ChkRo}
-use Rattle.node.specs.Nodes.{Node, client, manager}
+use Rattle.node.specs.declared.Node.{Node}
+use Rattle.node.specs.declared.Node.TheVariants.{Client, Manager}
 use Rattle.rings.specs.Rings.{Ring, fresh}
 use Rattle.rings.specs.Calls.{Call, link_up, carry, lose, expire, step}
 use Rattle.rings.specs.Floods.{loop, flood}
@@ -28,8 +29,8 @@ state_number ChkRc = 2
 state_number ChkRo = 3
 
 abbrev pub manager_state : Node → ℕ
-manager_state (manager m) = state_number m.state
-manager_state (client m) = 0
+manager_state (Manager m) = state_number m.state
+manager_state (Client m) = 0
 
 abbrev pub shown : ℕ → Ring → Line
 shown n r = line r.refusal r.flow.sent r.flow.arrived r.flow.lost (manager_state (r.nodes 0)) (cond (loop n r) 1 0)

@@ -1,30 +1,13 @@
 -- The settings of a node, and their limits.
-use Rattle.std.specs.Prelude.{◌≡◌, ℕ, ◌%◌, Bool, true, false, ◌&&◌, List, Ok, Err, Result, ◌==◌, nat_le}
+use Rattle.std.specs.Prelude.{◌≡◌, ℕ, ◌%◌, ◌<◌, Bool, true, false, ◌&&◌, length, Ok, Err, Result, ◌==◌, nat_le}
 use Rattle.refusal.specs.declared.Refusal.{Refusal}
 use Rattle.refusal.specs.declared.Refusal.TheVariants as refusal
 use Rattle.settings.specs.declared.draft.Draft.{Draft}
-use Rattle.settings.specs.declared.values.Settings.{Settings}
 
 -- intervals in milliseconds: short and default test, topology change, link up and link down; counts of tests, of
 -- topology changes and of link frames; priority, domain and address
-pub record Setup : Type 0 where
-  pub short_test : ℕ
-  pub default_test : ℕ
-  pub topology : ℕ
-  pub link_up : ℕ
-  pub link_down : ℕ
-  pub test_count : ℕ
-  pub topology_count : ℕ
-  pub link_count : ℕ
-  pub priority : ℕ
-  pub domain : List ℕ
-  pub address : List ℕ
-
-abbrev pub draft_setup : Draft → Setup
-draft_setup d = record { short_test = d.short_test; default_test = d.default_test; topology = d.topology; link_up = d.link_up; link_down = d.link_down; test_count = d.test_count; topology_count = d.topology_count; link_count = d.link_count; priority = d.priority; domain = d.domain; address = d.address }
-
-abbrev pub setup : Settings → Setup
-setup s = record { short_test = s.short_test; default_test = s.default_test; topology = s.topology; link_up = s.link_up; link_down = s.link_down; test_count = s.test_count; topology_count = s.topology_count; link_count = s.link_count; priority = s.priority; domain = s.domain; address = s.address }
+abbrev pub Setup : Type 0
+Setup = Draft
 
 abbrev pub is_interval : ℕ → Bool
 is_interval t = nat_le 1 t && nat_le t 1000
@@ -43,7 +26,14 @@ in_count s = is_count 2 s.test_count && (is_count 1 s.topology_count && (is_coun
 abbrev pub within : Setup → Bool
 within s = in_time s && in_count s
 
+-- within their limits, with a priority of 16 bits, a domain of 16 octets and an address of 6
+pub record Within (s : Setup) : Type 0 where
+  pub limits : within s ≡ true
+  pub priority : s.priority < 0x10000
+  pub domain : length s.domain ≡ 16
+  pub address : length s.address ≡ 6
+
 -- the settings are those asked for, where they are within their limits; anything else is refused as 13
-abbrev pub Settled : Setup → Result Settings Refusal → Type 0
-Settled s (Ok r) = (within s ≡ true) × (setup r ≡ s)
+abbrev pub Settled : Setup → Result Setup Refusal → Type 0
+Settled s (Ok r) = (within s ≡ true) × (r ≡ s)
 Settled s (Err e) = (within s ≡ false) × (e ≡ refusal.Setting)

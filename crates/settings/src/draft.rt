@@ -1,6 +1,6 @@
-// Settings as they are asked for, not looked at yet.
+// Settings as they are asked for, not looked at yet; intervals are in milliseconds.
 ghost use Rattle.std.specs.Prelude.{◌≡◌};
-ghost use Rattle.settings.specs.Setups.{draft_setup, is_interval, is_count, in_time, in_count, Settled};
+ghost use Rattle.settings.specs.Setups.{is_interval, is_count, in_time, in_count, within, Settled};
 
 use crate::values::Settings;
 use refusal::Refusal;
@@ -23,46 +23,39 @@ pub struct Draft {
 fn is_interval(time: u16) -> bool
     ensures { result ≡ is_interval time }
 {
-    time >= 1 && time <= 1000
+    (1..=1000).contains(&time)
 }
 
 fn is_count(count: u16, least: u16) -> bool
     ensures { result ≡ is_count least count }
 {
-    count >= least && count <= 10
+    (least..=10).contains(&count)
+}
+
+// The settings, where all of them are within their limits.
+impl TryFrom<Draft> for Settings {
+    type Error = Refusal;
+
+    ghost try_from_gives = { Settled };
+
+    fn try_from(draft: Draft) -> Result<Self, Refusal> {
+        let true = draft.is_within() else {
+            return Err(Refusal::Setting);
+        };
+        Ok(Settings { asked: draft })
+    }
 }
 
 impl Draft {
-    // The settings, where all of them are within their limits.
-    pub fn settle(self) -> Result<Settings, Refusal>
-        ensures { Settled (draft_setup self) result }
+    fn is_within(&self) -> bool
+        ensures { result ≡ within self.now }
     {
-        let true = self.is_in_time() else {
-            return Err(Refusal::Setting);
-        };
-        let true = self.is_in_count() else {
-            return Err(Refusal::Setting);
-        };
-        let domain = self.domain;
-        let address = self.address;
-        Ok(Settings {
-            short_test: self.short_test,
-            default_test: self.default_test,
-            topology: self.topology,
-            link_up: self.link_up,
-            link_down: self.link_down,
-            test_count: self.test_count,
-            topology_count: self.topology_count,
-            link_count: self.link_count,
-            priority: self.priority,
-            domain,
-            address,
-        })
+        self.is_in_time() && self.is_in_count()
     }
 
     // Whether the intervals are within their limits.
     fn is_in_time(&self) -> bool
-        ensures { result ≡ in_time (draft_setup self.now) }
+        ensures { result ≡ in_time self.now }
     {
         is_interval(self.short_test)
             && is_interval(self.default_test)
@@ -74,11 +67,12 @@ impl Draft {
 
     // Whether the counts and the priority are within their limits.
     fn is_in_count(&self) -> bool
-        ensures { result ≡ in_count (draft_setup self.now) }
+        ensures { result ≡ in_count self.now }
     {
         is_count(self.test_count, 2)
             && is_count(self.topology_count, 1)
             && is_count(self.link_count, 1)
+            // as in frames, of which settings know nothing
             && self.priority % 0x1000 == 0
     }
 }

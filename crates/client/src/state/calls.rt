@@ -1,30 +1,28 @@
 // What a client is told and asked.
-ghost use Rattle.std.specs.Prelude.{◌≡◌};
-ghost use Rattle.settings.specs.Setups.{setup};
-ghost use Rattle.event.specs.Events.{turns as turned, hears as heard_at, expires as expired};
+ghost use Rattle.std.specs.Prelude.{◌≡◌, refl};
+ghost use Rattle.switch.specs.declared.port.Port.{Port};
+ghost use Rattle.event.specs.declared.Timer.{Timer};
 ghost use Rattle.outbox.specs.Boxes.{emptied};
-ghost use Rattle.outbox.specs.Rows.{Acted, quiet, begun};
+ghost use Rattle.outbox.specs.Rows.{Acted, quiet};
 ghost use Rattle.client.specs.Machines.{started, timer_in};
-ghost use Rattle.client.specs.Rows.{acts, changes, expire_answer, passed_by};
-ghost use Rattle.client.specs.Models.{model};
+ghost use Rattle.client.specs.Rows.{acts, fires, changes, passed_by, setup_of};
 
 use crate::state::{Client, State};
 use event::Timer;
-use hearing::{hear, is_mrp};
+use hearing::{Heard, hear, is_mrp};
+use machine::{Machine, Step, quiet};
 use outbox::Outbox;
-use refusal::Refusal;
 use settings::Settings;
-use switch::{Port, PortState, Switch};
+use switch::{Port, Switch};
 
 impl Client {
     // C1: both ports blocked, nothing known, no timer runs.
     pub fn start<S: Switch>(settings: Settings, switch: &mut S) -> Self
-        ensures machine { model result ≡ started (setup settings) }
+        ensures machine { result ≡ started settings }
         ensures switch { S.Switch.meaning switch.new ≡ quiet (S.Switch.meaning switch.old) }
     {
-        switch.set_port(Port::One, PortState::Blocked);
-        switch.set_port(Port::Two, PortState::Blocked);
-        switch.clear();
+        quiet(switch);
+        let left = settings.asked.link_count;
         Client {
             settings,
             state: State::AcStat1,
@@ -32,89 +30,86 @@ impl Client {
             up_timer: None,
             down_timer: None,
             clear_timer: None,
-            left: settings.link_count,
+            left,
             sequence: 0,
-        }
-    }
-
-    // The link at a port goes up or down.
-    pub fn link<S: Switch>(&mut self, switch: &mut S, port: Port, up: bool, out: &mut Outbox)
-        ensures { Acted (acts (turned port up)) (model self.old).setup (model self.old) (model self.new) (S.Switch.meaning switch.old) (S.Switch.meaning switch.new) (emptied out.old) out.new }
-    {
-        out.empty();
-        if up {
-            self.up(switch, port, out);
-        } else {
-            self.down(switch, port, out);
-        }
-    }
-
-    // A frame comes by a port; answers the port that it is passed on by.
-    pub fn frame<S: Switch>(
-        &mut self,
-        switch: &mut S,
-        port: Port,
-        octets: &[u8],
-        out: &mut Outbox,
-    ) -> Option<Port>
-        ensures passes { result ≡ passed_by port octets.now }
-        ensures acted { Acted (acts (heard_at port octets.now)) (model self.old).setup (model self.old) (model self.new) (S.Switch.meaning switch.old) (S.Switch.meaning switch.new) (emptied out.old) out.new }
-    {
-        out.empty();
-        let heard = hear(&self.settings, octets);
-        self.hears(switch, heard, out);
-        if is_mrp(octets) {
-            Some(port.other())
-        } else {
-            None
         }
     }
 
     // A topology change comes in `interval` milliseconds, told by whatever frame.
     pub fn change<S: Switch>(&mut self, switch: &mut S, interval: u16, out: &mut Outbox)
-        ensures { Acted (changes interval self.old.state) (model self.old).setup (model self.old) (model self.new) (S.Switch.meaning switch.old) (S.Switch.meaning switch.new) (emptied out.old) out.new }
+        ensures { Acted (changes interval self.old.state) self.old.setup self.old self.new (S.Switch.meaning switch.old) (S.Switch.meaning switch.new) (emptied out.old) out.new }
     {
         out.empty();
-        self.changes(switch, interval, out);
-    }
-
-    // The timer of a number runs out.
-    pub fn expire<S: Switch>(
-        &mut self,
-        switch: &mut S,
-        number: u8,
-        out: &mut Outbox,
-    ) -> Result<(), Refusal>
-        ensures answer { result ≡ expire_answer number (model self.old) }
-        ensures acted { Acted (acts (expired number)) (model self.old).setup (model self.old) (model self.new) (S.Switch.meaning switch.old) (S.Switch.meaning switch.new) (begun (expire_answer number (model self.old)) out.old) out.new }
-    {
-        let timer = match Timer::of(number) {
-            Ok(timer) => timer,
-            Err(refusal) => return Err(refusal),
-        };
-        if self.timer(timer).is_none() {
-            return Err(Refusal::TimerNotRunning);
-        }
-        out.empty();
-        self.fires(switch, timer, out);
-        Ok(())
+        // no frame of a client has a stamp
+        let stamp = 0;
+        self.changes(&mut Step { switch, stamp, out }, interval);
     }
 
     pub fn state(&self) -> State
-        ensures { result ≡ (model self.now).state }
+        ensures { result ≡ self.now.state }
     {
         self.state
     }
+}
 
-    // The interval that a timer was started with, where it runs.
-    pub fn timer(&self, timer: Timer) -> Option<u16>
-        ensures { result ≡ timer_in (model self.now) timer }
-    {
+// A client does without the time stamp.
+impl Machine for Client {
+    ghost setup = { setup_of };
+
+    ghost timers = { timer_in };
+
+    ghost acts = { λ stamp e. acts e };
+
+    ghost fired = { λ stamp t. fires t };
+
+    ghost passed = { λ p xs m. passed_by p xs };
+
+    ghost runs_out = { λ stamp n r. refl };
+
+    fn timer(&self, timer: Timer) -> Option<u16> {
         match timer {
             Timer::Test | Timer::Topology => None,
             Timer::LinkUp => self.up_timer,
             Timer::LinkDown => self.down_timer,
             Timer::Clear => self.clear_timer,
+        }
+    }
+
+    fn passes(&self, port: Port, octets: &[u8]) -> Option<Port> {
+        is_mrp(octets).then_some(port.other())
+    }
+
+    // whether the link is up is what the call takes
+    fn turns<S: Switch>(&mut self, step: &mut Step<S>, port: Port, up: bool) {
+        if up {
+            self.up(step, port);
+        } else {
+            self.down(step, port);
+        }
+    }
+
+    fn hears<S: Switch>(&mut self, step: &mut Step<S>, _port: Port, octets: &[u8]) {
+        if let Some(Heard::TopologyChange { interval }) = hear(&self.settings, octets) {
+            self.changes(step, interval);
+        }
+    }
+
+    fn fires<S: Switch>(&mut self, step: &mut Step<S>, timer: Timer) {
+        match timer {
+            Timer::LinkUp => {
+                self.up_timer = None;
+                self.up_out(step);
+            }
+            Timer::LinkDown => {
+                self.down_timer = None;
+                self.down_out(step);
+            }
+            // C30
+            Timer::Clear => {
+                self.clear_timer = None;
+                step.switch.clear();
+            }
+            Timer::Test | Timer::Topology => {}
         }
     }
 }
