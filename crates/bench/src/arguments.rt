@@ -17,6 +17,7 @@ pub fn take_number(words: &mut Words<'_>) -> Result<u16, BadLine> {
     decimal(words.take()).ok_or(BadLine::NotANumber)
 }
 
+// No `TryFrom`: ports know nothing of words, and the refusal is the line's.
 pub fn take_port(words: &mut Words<'_>) -> Result<Port, BadLine> {
     match words.take() {
         b"1" => Ok(Port::One),

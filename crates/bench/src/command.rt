@@ -26,9 +26,10 @@ pub enum Told {
     Timer { number: u8 },
 }
 
-impl Command {
-    pub fn read(words: Words<'_>) -> Result<Command, BadLine> {
-        let mut words = words;
+impl TryFrom<Words<'_>> for Command {
+    type Error = BadLine;
+
+    fn try_from(mut words: Words<'_>) -> Result<Command, BadLine> {
         match words.take() {
             b"client" => making(Role::Client, words),
             b"manager" => making(Role::Manager, words),
@@ -41,10 +42,9 @@ impl Command {
     }
 }
 
-fn making(role: Role, words: Words<'_>) -> Result<Command, BadLine> {
-    let mut words = words;
+fn making(role: Role, mut words: Words<'_>) -> Result<Command, BadLine> {
     expect_words(&words, 9)?;
-    let kind = SwitchKind::of(words.take())?;
+    let kind = SwitchKind::try_from(words.take())?;
     let draft = draft(role, &mut words)?;
     Ok(Command::Make { role, kind, draft })
 }
@@ -73,29 +73,26 @@ fn address_of(role: Role) -> [u8; 6] {
     }
 }
 
-fn link(up: bool, words: Words<'_>) -> Result<Command, BadLine> {
-    let mut words = words;
+fn link(up: bool, mut words: Words<'_>) -> Result<Command, BadLine> {
     expect_words(&words, 1)?;
     let port = take_port(&mut words)?;
     Ok(Command::Tell(Told::Link { port, up }))
 }
 
-fn frame(words: Words<'_>) -> Result<Command, BadLine> {
-    let mut words = words;
+fn frame(mut words: Words<'_>) -> Result<Command, BadLine> {
     if words.count() < 2 {
         return Err(BadLine::WordCount);
     }
     let port = take_port(&mut words)?;
     let line = read_line(words.rest);
-    match line.reading() {
-        Reading::Octets(_) => Ok(Command::Tell(Told::Frame { port, line })),
-        Reading::Blank | Reading::NotHex => Err(BadLine::NotOctets),
-    }
+    let Reading::Octets(_) = line.reading() else {
+        return Err(BadLine::NotOctets);
+    };
+    Ok(Command::Tell(Told::Frame { port, line }))
 }
 
 // No timer has the number 255, which stands for all above it.
-fn timer(words: Words<'_>) -> Result<Command, BadLine> {
-    let mut words = words;
+fn timer(mut words: Words<'_>) -> Result<Command, BadLine> {
     expect_words(&words, 1)?;
     let number = u8::try_from(take_number(&mut words)?).unwrap_or(255);
     Ok(Command::Tell(Told::Timer { number }))

@@ -4,14 +4,13 @@
 mod arguments;
 mod bad_line;
 mod command;
-mod names;
 mod player;
 mod report;
 mod session;
 mod switches;
 
 use session::Session;
-use std::io::{BufWriter, Read, Write};
+use std::io::{BufRead, BufReader, BufWriter, Write};
 
 fn main(rt: HostRuntime) -> anyhow::Result<()> {
     run(&rt)
@@ -19,17 +18,17 @@ fn main(rt: HostRuntime) -> anyhow::Result<()> {
 
 fn run(rt: &HostRuntime) -> anyhow::Result<()> {
     let mut out = BufWriter::new(rt.alloc(), rt.stdout())?;
-    let mut input = rt.stdin();
-    let mut session = Session::new(rt.alloc());
-    let mut chunk = [0; 65536];
+    let mut input = BufReader::new(rt.alloc(), rt.stdin())?;
+    let mut session = Session::new();
+    let mut line = Vec::new(rt.alloc());
+    // Every loop has an end: no input has as many lines.
     for _ in 0..u64::MAX {
-        let n = input.read(&mut chunk)?;
-        if n == 0 {
+        line.clear();
+        if input.read_until(b'\n', &mut line)? == 0 {
             break;
         }
-        session.feed(&chunk[0..n], &mut out)?;
+        session.play(&line, &mut out)?;
     }
-    session.end_line(&mut out)?;
     out.flush()?;
     Ok(())
 }

@@ -1,14 +1,14 @@
-// The parts of a line of output: the node as it stands, what it sent, and where a frame is passed on.
-use crate::names::{port_name, state_name, timer_name};
+// The parts of a line of output: the node as it stands, and what it sent.
 use crate::player::Seen;
-use anyhow::anyhow;
+use anyhow::bail;
 use event::Timer;
 use frame::read;
+use machine::Machine;
+use node::Node;
 use outbox::{Outbox, Place};
-use std::alloc::Global;
+use std::fmt;
 use std::io::Write;
-use switch::Port;
-use text::frame_text;
+use text::FrameText;
 
 const TIMERS: [Timer; 5] = [
     Timer::Test,
@@ -19,43 +19,37 @@ const TIMERS: [Timer; 5] = [
 ];
 
 // State, ports and running timers, each after a space.
-pub fn write_node<W: Write>(out: &mut W, seen: &Seen) -> anyhow::Result<()> {
-    let state = state_name(&seen.node);
-    let first = port_name(seen.first);
-    let second = port_name(seen.second);
-    write!(out, " {state} {first} {second}")?;
-    for timer in TIMERS {
-        if let Some(interval) = seen.node.timer(timer) {
-            let name = timer_name(timer);
-            write!(out, " {name}={interval}")?;
+impl fmt::Display for Seen {
+    fn fmt<W: fmt::Write>(&self, f: &mut fmt::Formatter<W>) -> fmt::Result {
+        match &self.node {
+            Node::Client(client) => write!(f, " {}", client.state())?,
+            Node::Manager(manager) => write!(f, " {}", manager.state())?,
         }
+        write!(f, " {} {}", self.first, self.second)?;
+        for timer in TIMERS {
+            if let Some(interval) = self.node.timer(timer) {
+                write!(f, " {timer}={interval}")?;
+            }
+        }
+        Ok(())
     }
-    Ok(())
 }
 
 // The frames in the places that are taken, each after a semicolon.
-pub fn write_sent<W: Write>(out: &mut W, heap: Global, sent: &Outbox) -> anyhow::Result<()> {
+pub fn write_sent<W: Write>(out: &mut W, sent: &Outbox) -> anyhow::Result<()> {
     for place in sent.places.iter().take(sent.count) {
-        write_place(out, heap, place)?;
+        write_place(out, place)?;
     }
     Ok(())
 }
 
-fn write_place<W: Write>(out: &mut W, heap: Global, place: &Place) -> anyhow::Result<()> {
+fn write_place<W: Write>(out: &mut W, place: &Place) -> anyhow::Result<()> {
     let total = place.total.min(place.octets.len());
-    let Ok(frame) = read(&place.octets[0..total]) else {
-        return Err(anyhow!("the node sent a frame that cannot be read"));
+    let Ok(frame) = read(&place.octets[..total]) else {
+        bail!("the node sent a frame that cannot be read");
     };
-    let port = place.port as u8;
-    let text = frame_text(heap, &frame)?;
+    let port = place.port;
+    let text = FrameText(&frame);
     write!(out, "; {port} {text}")?;
-    Ok(())
-}
-
-pub fn write_passed<W: Write>(out: &mut W, passed: Option<Port>) -> anyhow::Result<()> {
-    if let Some(port) = passed {
-        let port = port as u8;
-        write!(out, "; passed {port}")?;
-    }
     Ok(())
 }

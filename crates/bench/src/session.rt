@@ -1,57 +1,39 @@
-// A session: the line that is being read, and the node that is played.
+// A session: how many lines were read, and the node that is played.
 use crate::bad_line::BadLine;
 use crate::command::{Command, Told};
-use crate::report::{write_node, write_passed, write_sent};
+use crate::report::write_sent;
 use crate::switches::{AnyPlayer, SwitchKind};
 use node::Role;
 use outbox::Outbox;
-use settings::Draft;
-use std::alloc::Global;
+use settings::{Draft, Settings};
 use std::io::Write;
 use words::Words;
 
 #[derive(Drop)]
 pub struct Session {
-    heap: Global,
-    line: Vec<u8>,
     number: u64,
     player: Option<AnyPlayer>,
 }
 
 impl Session {
-    pub fn new(heap: Global) -> Session {
+    pub fn new() -> Session {
         Session {
-            heap,
-            line: Vec::new(heap),
             number: 0,
             player: None,
         }
     }
 
-    // Takes the next characters of the input, and plays the lines that end in them.
-    pub fn feed<W: Write>(&mut self, characters: &[u8], out: &mut W) -> anyhow::Result<()> {
-        for c in characters {
-            if *c == b'\n' {
-                self.end_line(out)?;
-            } else {
-                self.line.push(*c)?;
-            }
-        }
-        Ok(())
-    }
-
-    // Plays the line, and begins the next one.
-    pub fn end_line<W: Write>(&mut self, out: &mut W) -> anyhow::Result<()> {
+    // Plays the next line of the input, which may end in a line feed.
+    pub fn play<W: Write>(&mut self, line: &[u8], out: &mut W) -> anyhow::Result<()> {
         self.number = self.number.saturating_add(1);
-        let words = Words::of(self.line.as_slice());
-        if words.count() > 0 {
-            match Command::read(words) {
-                Ok(command) => self.obey(command, out)?,
-                Err(bad) => self.complain(bad, out)?,
-            }
+        let words = Words::of(line.strip_suffix(b"\n").unwrap_or(line));
+        if words.count() == 0 {
+            return Ok(());
         }
-        self.line.clear();
-        Ok(())
+        match Command::try_from(words) {
+            Ok(command) => self.obey(command, out),
+            Err(bad) => self.complain(bad, out),
+        }
     }
 
     fn complain<W: Write>(&self, bad: BadLine, out: &mut W) -> anyhow::Result<()> {
@@ -75,7 +57,8 @@ impl Session {
         draft: Draft,
         out: &mut W,
     ) -> anyhow::Result<()> {
-        let answer = match draft.settle() {
+        // what is printed is 0 or the number of the refusal
+        let answer = match Settings::try_from(draft) {
             Ok(settings) => {
                 self.player = Some(AnyPlayer::new(kind, role, settings));
                 0
@@ -84,28 +67,29 @@ impl Session {
         };
         write!(out, "{answer}")?;
         if let Some(player) = &self.player {
-            write_node(out, &player.seen())?;
+            let seen = player.seen();
+            write!(out, "{seen}")?;
         }
         writeln!(out)?;
         Ok(())
     }
 
     fn tell<W: Write>(&mut self, told: &Told, out: &mut W) -> anyhow::Result<()> {
-        let Some(player) = self.player.take() else {
+        let Some(player) = self.player.as_mut() else {
             return self.complain(BadLine::NoNode, out);
         };
         let mut sent = Outbox::new();
-        let (player, answer) = player.tell(told, &mut sent);
-        let (number, passed) = match answer {
+        let (number, passed) = match player.tell(told, &mut sent) {
             Ok(passed) => (0, passed),
             Err(refusal) => (refusal.number(), None),
         };
-        write!(out, "{number}")?;
-        write_node(out, &player.seen())?;
-        write_sent(out, self.heap, &sent)?;
-        write_passed(out, passed)?;
+        let seen = player.seen();
+        write!(out, "{number}{seen}")?;
+        write_sent(out, &sent)?;
+        if let Some(port) = passed {
+            write!(out, "; passed {port}")?;
+        }
         writeln!(out)?;
-        self.player = Some(player);
         Ok(())
     }
 }

@@ -18,7 +18,7 @@ pub enum SwitchKind {
     TurnedChip,
 }
 
-// A node on a switch of one of the kinds.
+// A node on a switch of one of the kinds: an enum, since no function here hands out a `dyn` value.
 #[derive(Drop)]
 pub enum AnyPlayer {
     Table(Player<TableSwitch>),
@@ -27,8 +27,10 @@ pub enum AnyPlayer {
     TurnedChip(Player<Turned<PlainChip>>),
 }
 
-impl SwitchKind {
-    pub fn of(word: &[u8]) -> Result<SwitchKind, BadLine> {
+impl TryFrom<&[u8]> for SwitchKind {
+    type Error = BadLine;
+
+    fn try_from(word: &[u8]) -> Result<SwitchKind, BadLine> {
         match word {
             b"table" => Ok(SwitchKind::Table),
             b"chip" => Ok(SwitchKind::Chip),
@@ -49,25 +51,12 @@ impl AnyPlayer {
         }
     }
 
-    // The player afterwards, and its answer.
-    pub fn tell(self, told: &Told, out: &mut Outbox) -> (AnyPlayer, Answer) {
+    pub fn tell(&mut self, told: &Told, out: &mut Outbox) -> Answer {
         match self {
-            AnyPlayer::Table(mut player) => {
-                let answer = player.tell(told, out);
-                (AnyPlayer::Table(player), answer)
-            }
-            AnyPlayer::Chip(mut player) => {
-                let answer = player.tell(told, out);
-                (AnyPlayer::Chip(player), answer)
-            }
-            AnyPlayer::TurnedTable(mut player) => {
-                let answer = player.tell(told, out);
-                (AnyPlayer::TurnedTable(player), answer)
-            }
-            AnyPlayer::TurnedChip(mut player) => {
-                let answer = player.tell(told, out);
-                (AnyPlayer::TurnedChip(player), answer)
-            }
+            AnyPlayer::Table(player) => player.tell(told, out),
+            AnyPlayer::Chip(player) => player.tell(told, out),
+            AnyPlayer::TurnedTable(player) => player.tell(told, out),
+            AnyPlayer::TurnedChip(player) => player.tell(told, out),
         }
     }
 
