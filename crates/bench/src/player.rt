@@ -59,6 +59,7 @@ impl<S: Switch> Player<S> {
     }
 }
 
+// The line of a frame has octets: whoever read the command saw to it.
 fn octets_of(line: &Line) -> &[u8] {
     match line.reading() {
         Reading::Octets(octets) => octets,

@@ -10,6 +10,7 @@ use switch::Switch;
 use table::TableSwitch;
 use turned::Turned;
 
+// The kind by its word, before there is a player of it.
 #[derive(Clone, Copy)]
 pub enum SwitchKind {
     Table,

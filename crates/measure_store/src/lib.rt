@@ -43,12 +43,9 @@ fn nth(frames: &[u8], number: usize) -> &[u8] {
     frames.get(at..at + 60).unwrap_or(frames)
 }
 
-// The frames are told by number, as in the rounds.
 fn filled(links: usize, link: usize, waiting: usize, frames: &[u8]) -> Result<Store, Refusal> {
     let mut store = Store::new(1, links)?;
-    for number in 0..waiting {
-        store.put(link, 1, nth(frames, number))?;
-    }
+    (0..waiting).try_for_each(|number| store.put(link, 1, nth(frames, number)).map(|_| ()))?;
     Ok(store)
 }
 

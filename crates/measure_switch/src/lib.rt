@@ -63,6 +63,7 @@ fn filled<S: Switch>(known: &[[u8; 6]]) -> S
     switch
 }
 
+// A loop: with a fold over the rounds the proof did not close.
 #[tactic(auto, using(crate::proofs::Rounds::iterate_more))]
 fn look_up_rounds<S: Switch>(switch: &S, asked: &[[u8; 6]], rounds: u32) -> u32
     ensures { result ≡ iterate (looked_up (S.Switch.meaning switch.now) asked.now) rounds 0 }

@@ -92,7 +92,8 @@ pub(crate) fn take_alike(
     )
 }
 
-// The number by which another store refuses to show the octets of the first frame of link 0 and direction 0.
+// The number by which another store refuses to show the octets of the first frame of link 0 and direction 0, and 0 for none:
+// tests compare numbers.
 pub(crate) fn shown_by(own: &mut Store, other: &Store) -> Result<u8, Refusal> {
     holding(own, 0, 0, |_, frame| match other.octets(frame) {
         Ok(_) => 0,

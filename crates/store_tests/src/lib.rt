@@ -14,7 +14,7 @@ mod tests {
 
     const OCTETS: [u8; 60] = [7; 60];
 
-    // The number of a refusal, and 0 for none.
+    // The number of a refusal, and 0 for none: tests compare numbers.
     fn number<T: Drop>(res: Result<T, Refusal>) -> u8 {
         match res {
             Ok(_) => 0,
