@@ -1,8 +1,8 @@
 -- What a client keeps, and how each part of it changes.
-use Rattle.std.specs.Prelude.{ℕ, ◌+◌, ◌%◌, None, Option}
+use Rattle.std.specs.Prelude.{ℕ, ◌+◌, ◌%◌, ◌≤◌, None, Option}
 use Rattle.switch.specs.declared.port.Port.{Port}
 use Rattle.switch.specs.declared.port.Port.TheVariants.{One}
-use Rattle.settings.specs.Setups.{Setup}
+use Rattle.settings.specs.Setups.{Setup, Within}
 use Rattle.event.specs.declared.Timer.{Timer}
 use Rattle.event.specs.declared.Timer.TheVariants as timer
 use Rattle.client.specs.declared.state.State.{State}
@@ -19,6 +19,11 @@ pub record Machine : Type 0 where
   pub clear_timer : Option ℕ
   pub left : ℕ
   pub sequence : ℕ
+
+-- what holds of every client: its settings are within their limits, and no more link frames are left than a count can ask for
+pub record Bounded (m : Machine) : Type 0 where
+  pub within : Within m.setup
+  pub few : m.left ≤ 10
 
 -- C1: as it starts
 abbrev pub started : Setup → Machine

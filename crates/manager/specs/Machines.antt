@@ -1,8 +1,8 @@
 -- What a manager keeps, and how each part of it changes.
-use Rattle.std.specs.Prelude.{ℕ, ◌+◌, ◌-◌, ◌%◌, Bool, false, None, Option}
+use Rattle.std.specs.Prelude.{ℕ, ◌+◌, ◌-◌, ◌%◌, ◌≤◌, Bool, false, None, Option}
 use Rattle.switch.specs.declared.port.Port.{Port}
 use Rattle.switch.specs.declared.port.Port.TheVariants.{One}
-use Rattle.settings.specs.Setups.{Setup}
+use Rattle.settings.specs.Setups.{Setup, Within}
 use Rattle.event.specs.declared.Timer.{Timer}
 use Rattle.event.specs.declared.Timer.TheVariants as timer
 use Rattle.manager.specs.declared.state.State.{State}
@@ -22,6 +22,11 @@ pub record Machine : Type 0 where
   pub repeats : ℕ
   pub transitions : ℕ
   pub sequence : ℕ
+
+-- what holds of every manager: its settings are within their limits, and no more announcements are left than a count can ask for
+pub record Bounded (m : Machine) : Type 0 where
+  pub within : Within m.setup
+  pub few : m.repeats ≤ 10
 
 -- as it starts
 abbrev pub started : Setup → Machine

@@ -24,7 +24,7 @@ pub record Times (s : Setup) : Type 0 where
   pub up : (1 ≤ s.link_up) × (s.link_up ≤ 1000)
   pub down : (1 ≤ s.link_down) × (s.link_down ≤ 1000)
 
-in_time_lem : (s : Setup) → in_time s ≡ true → Times s
+pub in_time_lem : (s : Setup) → in_time s ≡ true → Times s
 in_time_lem s h =
     let a = and_parts (is_interval s.short_test) _ h in
     let b = and_parts (is_interval s.default_test) _ a.1 in
@@ -39,7 +39,7 @@ pub record Counts (s : Setup) : Type 0 where
   pub links : (1 ≤ s.link_count) × (s.link_count ≤ 10)
   pub multiple : s.priority % 0x1000 ≡ 0
 
-in_count_lem : (s : Setup) → in_count s ≡ true → Counts s
+pub in_count_lem : (s : Setup) → in_count s ≡ true → Counts s
 in_count_lem s h =
     let a = and_parts (is_count 2 s.test_count) _ h in
     let b = and_parts (is_count 1 s.topology_count) _ a.1 in

@@ -12,10 +12,11 @@ pub struct Lane {
     len: u8,
 }
 
-// A place leads to the one behind it, and may be in hand.
+// A place leads to the one behind it, by a number of one octet, so that the lists take no more room than arrays of their
+// fields would; and it may be in hand.
 #[derive(Clone, Copy)]
 pub struct Spot {
-    next: usize,
+    next: u8,
     held: bool,
 }
 

@@ -4,7 +4,7 @@ ghost use Rattle.switch.specs.declared.port.Port.{Port};
 ghost use Rattle.event.specs.declared.Timer.{Timer};
 ghost use Rattle.outbox.specs.Boxes.{emptied};
 ghost use Rattle.outbox.specs.Rows.{Acted, quiet};
-ghost use Rattle.client.specs.Machines.{started, timer_in};
+ghost use Rattle.client.specs.Machines.{started, timer_in, Bounded};
 ghost use Rattle.client.specs.Rows.{acts, fires, changes, passed_by, setup_of};
 
 use crate::state::{Client, State};
@@ -46,8 +46,11 @@ impl Client {
     }
 
     pub fn state(&self) -> State
-        ensures { result ≡ self.now.state }
+        ensures answer { result ≡ self.now.state }
+        ensures bounds { Bounded self.now }
     {
+        // opened for what the second clause says of them
+        let _ = &self.settings.asked;
         self.state
     }
 }

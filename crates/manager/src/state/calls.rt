@@ -3,7 +3,7 @@ ghost use Rattle.std.specs.Prelude.{◌≡◌, None, refl};
 ghost use Rattle.switch.specs.declared.port.Port.{Port};
 ghost use Rattle.event.specs.declared.Timer.{Timer};
 ghost use Rattle.outbox.specs.Rows.{quiet};
-ghost use Rattle.manager.specs.Machines.{started, timer_in};
+ghost use Rattle.manager.specs.Machines.{started, timer_in, Bounded};
 ghost use Rattle.manager.specs.Rows.{acts, fires, setup_of};
 
 use crate::state::{Manager, State};
@@ -36,8 +36,11 @@ impl Manager {
     }
 
     pub fn state(&self) -> State
-        ensures { result ≡ self.now.state }
+        ensures answer { result ≡ self.now.state }
+        ensures bounds { Bounded self.now }
     {
+        // opened for what the second clause says of them
+        let _ = &self.settings.asked;
         self.state
     }
 }

@@ -16,7 +16,7 @@ impl Chains {
                 ensures { (result.next ≡ place + 1) × (result.held ≡ false) }
             {
                 Spot {
-                    next: place + 1,
+                    next: place as u8 + 1,
                     held: false,
                 }
             },
@@ -52,7 +52,7 @@ impl Chains {
         }
         let next = self.places[head].next;
         let lane = &mut self.lanes[list];
-        lane.head = next;
+        lane.head = next as usize;
         lane.len = len - 1;
         self.places[head].held = true;
         self.taken = self.taken.wrapping_add(1);
@@ -68,7 +68,7 @@ impl Chains {
         let head = if len == 0 {
             place
         } else {
-            self.places[tail].next = place;
+            self.places[tail].next = place as u8;
             head
         };
         self.lanes[list] = Lane {

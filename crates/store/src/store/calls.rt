@@ -3,7 +3,7 @@ ghost use Rattle.std.specs.Prelude.{◌≡◌, ℕ, ◌+◌, ◌<◌, ◌≤◌,
 ghost use Rattle.store.specs.Counting.{one};
 ghost use Rattle.store.specs.Contents.{contents, no_frame};
 ghost use Rattle.store.specs.Model.{wrong_size, wrong_length, new_answer, put_answer, PutInto, take_answer, take_after, Held, pass_answer, pass_after, waiting_answer, shown, octets_answer, spend_answer, spend_after, waiting_in, any_waits};
-ghost use Rattle.store.specs.Laws.{Laws, in_hands, stands_in};
+ghost use Rattle.store.specs.Laws.{Laws, Reached, in_hands, stands_in};
 ghost use Rattle.store.specs.Chains.{pushed};
 ghost use Rattle.store.specs.Spots.{spots};
 ghost use Rattle.store.specs.View.{lane_answer, is_held, held_answer};
@@ -179,6 +179,8 @@ impl Store {
         ensures answer { result ≡ self.now.free }
         ensures rest { waiting_in self.now + in_hands self.now + result ≡ 128 }
         ensures once { (p : ℕ) → stands_in self.now p ≤ one (nat_lt p 128) }
+        ensures reached { Reached self.now.number self.now.links self.now }
+        ensures few { self.now.links ≤ 50 }
         ensures laws { Laws }
     {
         self.chains.len(FREE)
