@@ -6,6 +6,12 @@ use Rattle.switch.specs.declared.port.PortState.{PortState}
 use Rattle.switch.specs.declared.port.PortState.TheVariants.{Disabled, Blocked, Forwarding}
 use Rattle.switch.specs.Meanings.{Meaning, Sound}
 
+-- the number of a state
+abbrev pub state_number : PortState → ℕ
+state_number Disabled = 0
+state_number Blocked = 1
+state_number Forwarding = 2
+
 -- the state that four bits stand for
 abbrev pub state_of : ℕ → PortState
 state_of zero = Disabled

@@ -2,7 +2,7 @@
 #![tactic(auto)]
 
 ghost use Rattle.std.specs.Prelude.{◌≡◌};
-ghost use Rattle.chip.specs.Octet.{state_of, chip_meaning, chip_sound};
+ghost use Rattle.chip.specs.Octet.{state_number, state_of, chip_meaning, chip_sound};
 
 use refusal::Refusal;
 use switch::{Address, Port, PortState, Switch};
@@ -13,6 +13,13 @@ const SIZE: usize = 0;
 #[derive(Clone, Copy)]
 pub struct PlainChip {
     states: u8,
+}
+
+// A state as the octet has it. No `From`: the number is the chip's own.
+fn number_of(state: PortState) -> u8
+    ensures { result ≡ state_number state }
+{
+    state as u8
 }
 
 // No `TryFrom`: the octet may hold any number, and reading it cannot fail.
@@ -40,8 +47,8 @@ impl Switch for PlainChip {
     // an arm for each port: an index or a shift by the port would say less
     fn set_port(&mut self, port: Port, state: PortState) {
         match port {
-            Port::One => self.states = self.states / 16 * 16 + state as u8,
-            Port::Two => self.states = self.states % 16 + 16 * state as u8,
+            Port::One => self.states = self.states / 16 * 16 + number_of(state),
+            Port::Two => self.states = self.states % 16 + 16 * number_of(state),
         }
     }
 
