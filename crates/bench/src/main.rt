@@ -10,7 +10,7 @@ mod session;
 mod switches;
 
 use session::Session;
-use std::io::{BufRead, BufReader, BufWriter, Write};
+use std::io::{BufWriter, Read, Write};
 
 fn main(rt: HostRuntime) -> anyhow::Result<()> {
     run(&rt)
@@ -18,17 +18,19 @@ fn main(rt: HostRuntime) -> anyhow::Result<()> {
 
 fn run(rt: &HostRuntime) -> anyhow::Result<()> {
     let mut out = BufWriter::new(rt.alloc(), rt.stdout())?;
-    let mut input = BufReader::new(rt.alloc(), rt.stdin())?;
-    let mut session = Session::new();
-    let mut line = Vec::new(rt.alloc());
-    // Every loop has an end: no input has as many lines.
+    let mut input = rt.stdin();
+    let mut session = Session::new(rt.alloc());
+    let mut chunk = [0; 65536];
+    // In chunks, and not by `read_until`: that reads a terminal once more after its end where the last line has no line feed,
+    // and keeps the line feed with the line. Every loop has an end.
     for _ in 0..u64::MAX {
-        line.clear();
-        if input.read_until(b'\n', &mut line)? == 0 {
+        let n = input.read(&mut chunk)?;
+        if n == 0 {
             break;
         }
-        session.play(&line, &mut out)?;
+        session.feed(&chunk[..n], &mut out)?;
     }
+    session.end_line(&mut out)?;
     out.flush()?;
     Ok(())
 }

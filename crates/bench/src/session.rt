@@ -1,4 +1,4 @@
-// A session: how many lines were read, and the node that is played.
+// A session: the line that is being read, and the node that is played.
 use crate::bad_line::BadLine;
 use crate::command::{Command, Told};
 use crate::report::write_sent;
@@ -6,34 +6,50 @@ use crate::switches::{AnyPlayer, SwitchKind};
 use node::Role;
 use outbox::Outbox;
 use settings::{Draft, Settings};
+use std::alloc::Global;
 use std::io::Write;
 use words::Words;
 
 #[derive(Drop)]
 pub struct Session {
+    line: Vec<u8>,
     number: u64,
     player: Option<AnyPlayer>,
 }
 
 impl Session {
-    pub fn new() -> Session {
+    pub fn new(heap: Global) -> Session {
         Session {
+            line: Vec::new(heap),
             number: 0,
             player: None,
         }
     }
 
-    // Plays the next line of the input, which may end in a line feed.
-    pub fn play<W: Write>(&mut self, line: &[u8], out: &mut W) -> anyhow::Result<()> {
+    // Takes the next characters of the input, and plays the lines that end in them.
+    pub fn feed<W: Write>(&mut self, characters: &[u8], out: &mut W) -> anyhow::Result<()> {
+        for c in characters {
+            if *c == b'\n' {
+                self.end_line(out)?;
+            } else {
+                self.line.push(*c)?;
+            }
+        }
+        Ok(())
+    }
+
+    // Plays the line, and begins the next one.
+    pub fn end_line<W: Write>(&mut self, out: &mut W) -> anyhow::Result<()> {
         self.number = self.number.saturating_add(1);
-        let words = Words::of(line.strip_suffix(b"\n").unwrap_or(line));
-        if words.count() == 0 {
-            return Ok(());
+        let words = Words::of(self.line.as_slice());
+        if words.count() > 0 {
+            match Command::try_from(words) {
+                Ok(command) => self.obey(command, out)?,
+                Err(bad) => self.complain(bad, out)?,
+            }
         }
-        match Command::try_from(words) {
-            Ok(command) => self.obey(command, out),
-            Err(bad) => self.complain(bad, out),
-        }
+        self.line.clear();
+        Ok(())
     }
 
     fn complain<W: Write>(&self, bad: BadLine, out: &mut W) -> anyhow::Result<()> {
