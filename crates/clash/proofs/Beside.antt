@@ -4,7 +4,7 @@ use Rattle.std.specs.declared.alloc.Global.{Global}
 use lib.ListN.{length-map}
 use Rattle.clash.specs.Clashes.{frame_at, nobody, count, same_sender, same_number, other_kind}
 use Rattle.clash.specs.Notes.{Kept, seen_in}
-use Rattle.clash.specs.Places.{last_below, spot}
+use Rattle.clash.specs.Places.{last_below}
 use Rattle.clash.specs.Sightings.{Seen, shown}
 use Rattle.clash.specs.declared.noted.Noted.{Noted}
 use Rattle.clash.proofs.Lasts.{last_same, last_skip}
@@ -15,8 +15,8 @@ pub record Beside (es : List Seen) (i : ℕ) (r : Noted) : Type 0 where
   pub below : i < length es
   pub frame : shown r.seen ≡ frame_at es i
   pub rank : r.rank ≡ count (λ k. same_sender (frame_at es i) (frame_at es k)) i
-  pub previous : spot r.previous ≡ last_below (λ k. same_number (frame_at es i) (frame_at es k)) i
-  pub other : spot r.other ≡ last_below (λ k. other_kind (frame_at es i) (frame_at es k)) i
+  pub previous : r.previous ≡ last_below (λ k. same_number (frame_at es i) (frame_at es k)) i
+  pub other : r.other ≡ last_below (λ k. other_kind (frame_at es i) (frame_at es k)) i
 
 -- there is a note for each frame
 pub as_many : (ns : List Noted) (es : List Seen) → seen_in ns ≡ es → length ns ≡ length es
@@ -33,11 +33,11 @@ beside ns es i r v w l e =
       below = k;
       frame = read_map (λ (n : Noted). shown n.seen) ns i r nobody b e;
       rank = read_map (λ (n : Noted). n.rank) ns i r 0 b e ∙ w.ranked i k;
-      previous = read_map (λ (n : Noted). spot n.previous) ns i r 0 b e ∙ w.preceded i k;
-      other = read_map (λ (n : Noted). spot n.other) ns i r 0 b e ∙ w.differed i k;
+      previous = read_map (λ (n : Noted). n.previous) ns i r 0 b e ∙ w.preceded i k;
+      other = read_map (λ (n : Noted). n.other) ns i r 0 b e ∙ w.differed i k;
     }
 
-pub other_before : (es : List Seen) (s : Seen) (i : ℕ) (r : Noted) → Beside es i r → same_number s (frame_at es i) ≡ true → eqb s.kind (frame_at es i).kind ≡ true → last_below (λ k. other_kind s (frame_at es k)) (suc i) ≡ spot r.other
+pub other_before : (es : List Seen) (s : Seen) (i : ℕ) (r : Noted) → Beside es i r → same_number s (frame_at es i) ≡ true → eqb s.kind (frame_at es i).kind ≡ true → last_below (λ k. other_kind s (frame_at es k)) (suc i) ≡ r.other
 other_before es s i r b n k =
     let f : other_kind s (frame_at es i) ≡ false = rw (n, k) refl in
     last_skip (λ j. other_kind s (frame_at es j)) i f ∙ last_same _ _ i (λ j l. other_same s (frame_at es i) (frame_at es j) n k) ∙ sym b.other

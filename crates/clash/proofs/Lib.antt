@@ -1,3 +1,4 @@
+pub mod Backs
 pub mod Beside
 pub mod Counts
 pub mod Lasts

@@ -3,7 +3,7 @@ use Rattle.std.proofs.Common.{◌≡◌, ℕ, ◌<◌, Bool, List, [], ◌∷◌
 use lib.ListN.{length-map}
 use Rattle.clash.specs.Clashes.{frame_at, nobody, count, same_sender, same_number, other_kind}
 use Rattle.clash.specs.Notes.{Recorded, Counted, Latest, Kept, Described, number_eq, number_of, seen_in}
-use Rattle.clash.specs.Places.{last_below, spot}
+use Rattle.clash.specs.Places.{last_below}
 use Rattle.clash.proofs.Counts.{count_same}
 use Rattle.clash.proofs.Lasts.{last_same}
 use Rattle.std.specs.Map.{count_at}
@@ -88,7 +88,7 @@ counted_push es s f f' n h e u k =
 number_sym : (a b : ℕ × List ℕ) → number_eq b a ≡ number_eq a b
 number_sym a b = ap₂ (λ (x y : Bool). x && y) (nat_eq_equiv.symm b.0 a.0) (nat_list_eq_equiv.symm b.1 a.1)
 
-latest_push : (es : List Seen) (s : Seen) (g g' : ℕ × List ℕ → Option ℕ) (n : ℕ) → Latest es g → n ≡ length es → ((k : ℕ × List ℕ) → g' k ≡ cond (number_eq (s.sequence, s.sender) k) (Some n) (g k)) → Latest (es ++ s ∷ []) g'
+latest_push : (es : List Seen) (s : Seen) (g g' : ℕ × List ℕ → Option ℕ) (n : ℕ) → Latest es g → n ≡ suc (length es) → ((k : ℕ × List ℕ) → g' k ≡ cond (number_eq (s.sequence, s.sender) k) (Some n) (g k)) → Latest (es ++ s ∷ []) g'
 latest_push es s g g' n h e u k =
     let p : ℕ → Bool = λ i. number_eq k (number_of (frame_at es i)) in
     let q : ℕ → Bool = λ i. number_eq k (number_of (frame_at (es ++ s ∷ []) i)) in
@@ -100,12 +100,12 @@ latest_push es s g g' n h e u k =
       | inl t ↦ (
           let found : g' k ≡ Some n = u k ∙ rw (number_sym k (number_of s) ∙ t) refl in
           let here : last_below q (length (es ++ s ∷ [])) ≡ length (es ++ s ∷ []) = grown ∙ rw t refl in
-          ap spot found ∙ omega (arith, here, e, long es s)
+          ap (λ (o : Option ℕ). unwrap_or o 0) found ∙ omega (arith, here, e, long es s)
           )
       | inr x ↦ (
           let found : g' k ≡ g k = u k ∙ rw (number_sym k (number_of s) ∙ x) refl in
           let gone : last_below q (length (es ++ s ∷ [])) ≡ last_below p (length es) = grown ∙ rw x refl in
-          ap spot found ∙ h k ∙ sym gone
+          ap (λ (o : Option ℕ). unwrap_or o 0) found ∙ h k ∙ sym gone
           )
     ]
 
@@ -117,20 +117,20 @@ kept_same {f' = f'} {g' = g'} w e u v =
       preceded = w.preceded;
       differed = w.differed;
       counted = λ k. ap (λ (o : Option ℕ). unwrap_or o 0) (u k) ∙ w.counted k;
-      latest = λ k. ap spot (v k) ∙ w.latest k;
+      latest = λ k. ap (λ (o : Option ℕ). unwrap_or o 0) (v k) ∙ w.latest k;
     }
 
 -- a history with one more frame
-pub kept_push : {ns ns' : List Noted} {f f' : List ℕ → Option ℕ} {g g' : ℕ × List ℕ → Option ℕ} (es : List Seen) (s : Seen) (r : Noted) (m n : ℕ) → Kept ns f g → seen_in ns ≡ es → Described es s r → ns' ≡ ns ++ r ∷ [] → m ≡ r.rank + 1 → n ≡ length ns → ((k : List ℕ) → f' k ≡ cond (bytes_eq s.sender k) (Some m) (f k)) → ((k : ℕ × List ℕ) → g' k ≡ cond (number_eq (number_of s) k) (Some n) (g k)) → Kept ns' f' g'
+pub kept_push : {ns ns' : List Noted} {f f' : List ℕ → Option ℕ} {g g' : ℕ × List ℕ → Option ℕ} (es : List Seen) (s : Seen) (r : Noted) (m n : ℕ) → Kept ns f g → seen_in ns ≡ es → Described es s r → ns' ≡ ns ++ r ∷ [] → m ≡ r.rank + 1 → n ≡ length ns + 1 → ((k : List ℕ) → f' k ≡ cond (bytes_eq s.sender k) (Some m) (f k)) → ((k : ℕ × List ℕ) → g' k ≡ cond (number_eq (number_of s) k) (Some n) (g k)) → Kept ns' f' g'
 kept_push {ns} {ns'} {f} {f'} {g} {g'} es s r m n w v d e x y u z =
     let d' : Described (seen_in ns) s r = subst (λ (xs : List Seen). Described xs s r) (sym v) d in
     let t = seen_push ns ns' r s e d.frame in
-    let many : n ≡ length (seen_in ns) = y ∙ sym (length-map ns (λ (a : Noted). shown a.seen)) in
+    let many : n ≡ suc (length (seen_in ns)) = omega (arith, y, length-map ns (λ (a : Noted). shown a.seen)) in
     let u' : (k : List ℕ) → f' k ≡ cond (bytes_eq s.sender k) (Some (r.rank + 1)) (f k) = λ k. u k ∙ ap (λ (b : ℕ). cond (bytes_eq s.sender k) (Some b) (f k)) x in
     record {
       ranked = noted_push count count_same same_sender (λ (a : Noted). a.rank) ns ns' r s e d.frame d'.rank w.ranked;
-      preceded = noted_push last_below last_same same_number (λ (a : Noted). spot a.previous) ns ns' r s e d.frame d'.previous w.preceded;
-      differed = noted_push last_below last_same other_kind (λ (a : Noted). spot a.other) ns ns' r s e d.frame d'.other w.differed;
+      preceded = noted_push last_below last_same same_number (λ (a : Noted). a.previous) ns ns' r s e d.frame d'.previous w.preceded;
+      differed = noted_push last_below last_same other_kind (λ (a : Noted). a.other) ns ns' r s e d.frame d'.other w.differed;
       counted = subst (λ (xs : List Seen). Counted xs f') (sym t) (counted_push (seen_in ns) s f f' r.rank w.counted d'.rank u');
       latest = subst (λ (xs : List Seen). Latest xs g') (sym t) (latest_push (seen_in ns) s g g' n w.latest many z);
     }
@@ -139,5 +139,5 @@ kept_push {ns} {ns'} {f} {f'} {g} {g'} es s r m n w v d e x y u z =
 pub counted_at : {ns : List Noted} {f : List ℕ → Option ℕ} {g : ℕ × List ℕ → Option ℕ} (es : List Seen) → Kept ns f g → seen_in ns ≡ es → (k : List ℕ) → count_at f k ≡ count (λ i. bytes_eq k (frame_at es i).sender) (length es)
 counted_at {f = f} es w v k = subst (λ (xs : List Seen). count_at f k ≡ count (λ i. bytes_eq k (frame_at xs i).sender) (length xs)) v (w.counted k)
 
-pub latest_at : {ns : List Noted} {f : List ℕ → Option ℕ} {g : ℕ × List ℕ → Option ℕ} (es : List Seen) → Kept ns f g → seen_in ns ≡ es → (k : ℕ × List ℕ) → spot (g k) ≡ last_below (λ i. number_eq k (number_of (frame_at es i))) (length es)
-latest_at {g = g} es w v k = subst (λ (xs : List Seen). spot (g k) ≡ last_below (λ i. number_eq k (number_of (frame_at xs i))) (length xs)) v (w.latest k)
+pub latest_at : {ns : List Noted} {f : List ℕ → Option ℕ} {g : ℕ × List ℕ → Option ℕ} (es : List Seen) → Kept ns f g → seen_in ns ≡ es → (k : ℕ × List ℕ) → count_at g k ≡ last_below (λ i. number_eq k (number_of (frame_at es i))) (length es)
+latest_at {g = g} es w v k = subst (λ (xs : List Seen). count_at g k ≡ last_below (λ i. number_eq k (number_of (frame_at xs i))) (length xs)) v (w.latest k)

@@ -1,8 +1,8 @@
 -- The way back over the frames that a frame clashes with.
-use Rattle.std.proofs.Common.{◌≡◌, ℕ, zero, suc, ◌+◌, ◌-◌, ◌<◌, ◌≤◌, true, false, not, eqb, ltb, List, [], ◌∷◌, length, get_or, Some, Option, sym, refl, ap, ◌∙◌, ap₂, inl, inr, arith}
+use Rattle.std.proofs.Common.{◌≡◌, ℕ, zero, suc, ◌+◌, ◌-◌, ◌<◌, ◌≤◌, true, false, not, eqb, ltb, List, [], ◌∷◌, length, get_or, Option, sym, refl, ap, ◌∙◌, ap₂, inl, inr, arith}
 use Rattle.clash.specs.Clashes.{frame_at, count, same_sender, same_number, other_kind, between, clash, partners, clash_lines, IsOnTrail}
 use Rattle.clash.specs.Notes.{Kept, seen_in}
-use Rattle.clash.specs.Places.{last_below, spot}
+use Rattle.clash.specs.Places.{last_below}
 use Rattle.clash.specs.Sightings.{Seen, shown}
 use Rattle.clash.specs.declared.noted.Noted.{Noted}
 use Rattle.clash.proofs.Beside.{Beside, beside, as_many}
@@ -51,9 +51,9 @@ pub record Turn (es : List Seen) (i j : ℕ) (r q : Noted) : Type 0 where
   pub here : Beside es i r
   pub top : Beside es j q
 
-pub turn : {f : List ℕ → Option ℕ} {g : ℕ × List ℕ → Option ℕ} (ns : List Noted) {es : List Seen} {i j : ℕ} {r q : Noted} {o : Option ℕ} → seen_in ns ≡ es → Kept ns f g → IsOnTrail es j (spot o) → o ≡ Some i → q ≡ get_or ns j q → r ≡ get_or ns i r → Turn es i j r q
-turn ns {es} {i} {j} {r} {q} {o} v w t e x y =
-    let a = t i (ap spot e) in
+pub turn : {f : List ℕ → Option ℕ} {g : ℕ × List ℕ → Option ℕ} (ns : List Noted) {es : List Seen} {i j s : ℕ} {r q : Noted} → seen_in ns ≡ es → Kept ns f g → IsOnTrail es j s → s ≡ suc i → q ≡ get_or ns j q → r ≡ get_or ns i r → Turn es i j r q
+turn ns {es} {i} {j} {s} {r} {q} v w t e x y =
+    let a = t i e in
     let b : i < length es = omega (arith, a.0, a.1) in
     record { within = a; here = beside ns es i r v w b y; top = beside ns es j q v w a.1 x }
 
@@ -70,19 +70,19 @@ none_past {es} {i} {j} {r} {q} t p =
     partners_none es j (suc i) (λ k l. and_right (other_kind (frame_at es j) (frame_at es k)) (ltb (between es k j) 32768)
     (le-ltb (between es k j) 32768 (omega (arith, far, after_more (λ x. same_sender (frame_at es j) (frame_at es x)) i k j (omega arith)))))
 
-previous_for : {es : List Seen} {i j : ℕ} {r q : Noted} → Turn es i j r q → spot r.previous ≡ last_below (λ k. same_number (frame_at es j) (frame_at es k)) i
+previous_for : {es : List Seen} {i j : ℕ} {r q : Noted} → Turn es i j r q → r.previous ≡ last_below (λ k. same_number (frame_at es j) (frame_at es k)) i
 previous_for {es} {i} {j} t =
     let same = number_part (frame_at es j) (frame_at es i) t.within.2 in
     t.here.previous ∙ sym (last_same _ _ i (λ k l. number_same (frame_at es j) (frame_at es i) (frame_at es k) same))
 
-pub previous_found : {es : List Seen} {i j : ℕ} {r q : Noted} → Turn es i j r q → (k : ℕ) → spot r.previous ≡ suc k → (k < length es) × (same_number (shown q.seen) (frame_at es k) ≡ true)
+pub previous_found : {es : List Seen} {i j : ℕ} {r q : Noted} → Turn es i j r q → (k : ℕ) → r.previous ≡ suc k → (k < length es) × (same_number (shown q.seen) (frame_at es k) ≡ true)
 previous_found {es} {i} {j} t k h =
     let f = last_found (λ x. same_number (frame_at es j) (frame_at es x)) i k (sym (previous_for t) ∙ h) in
     (omega (arith, f.0, t.here.below), ap (λ (x : Seen). same_number x (frame_at es k)) t.top.frame ∙ f.1)
 
 -- where the search goes on
 abbrev pub Onto : List Seen → Noted → Noted → ℕ → Type 0
-Onto es r q o = o ≡ last_below (λ k. other_kind (shown q.seen) (frame_at es k)) (spot r.previous)
+Onto es r q o = o ≡ last_below (λ k. other_kind (shown q.seen) (frame_at es k)) r.previous
 
 onto : {es : List Seen} {i j : ℕ} {r q : Noted} → Turn es i j r q → (o : ℕ) → Onto es r q o → o ≡ last_below (λ k. other_kind (frame_at es j) (frame_at es k)) i
 onto {es} {i} {j} t o h =
@@ -105,7 +105,7 @@ pub record Begins (es : List Seen) (j s : ℕ) : Type 0 where
   pub trail : IsOnTrail es j s
   pub all : partners es j s ≡ clash_lines es j
 
-pub begins : {f : List ℕ → Option ℕ} {g : ℕ × List ℕ → Option ℕ} (ns : List Noted) (es : List Seen) (j : ℕ) (q : Noted) → seen_in ns ≡ es → Kept ns f g → j < length ns → q ≡ get_or ns j q → Begins es j (spot q.other)
+pub begins : {f : List ℕ → Option ℕ} {g : ℕ × List ℕ → Option ℕ} (ns : List Noted) (es : List Seen) (j : ℕ) (q : Noted) → seen_in ns ≡ es → Kept ns f g → j < length ns → q ≡ get_or ns j q → Begins es j q.other
 begins ns es j q v w b e =
     let l : j < length es = omega (arith, as_many ns es v) in
     let d = beside ns es j q v w l e in

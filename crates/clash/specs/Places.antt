@@ -1,12 +1,7 @@
 -- The last place at which a test holds.
-use Rattle.std.specs.Prelude.{ℕ, zero, suc, Bool, cond, Some, None, Option}
+use Rattle.std.specs.Prelude.{ℕ, zero, suc, Bool, cond}
 
 -- one more than the last place below m at which p holds, and 0 where there is none
 abbrev pub last_below : (ℕ → Bool) → ℕ → ℕ
 last_below p zero = 0
 last_below p (suc m) = cond (p m) (suc m) (last_below p m)
-
--- a place that may be missing, in the same way: one more than the place, or 0
-abbrev pub spot : Option ℕ → ℕ
-spot None = 0
-spot (Some i) = suc i

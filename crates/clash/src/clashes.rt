@@ -1,6 +1,5 @@
 // The search for the clashes of one frame, back over the frames before it.
 ghost use Rattle.std.specs.Prelude.{◌≡◌};
-ghost use Rattle.clash.specs.Places.{spot};
 ghost use Rattle.clash.specs.Clashes.{IsOnTrail};
 
 use crate::history::History;
@@ -10,9 +9,9 @@ use crate::history::History;
 pub struct Clashes<'a> {
     pub(crate) history: &'a History,
     pub(crate) place: usize,
-    // The latest frame that may be the next, of those with the sender and number of the frame and another kind.
-    pub(crate) at: Option<usize>,
-    ghost trail: { IsOnTrail history.now place (spot at) },
+    // One more than the place of the latest frame that may be the next, of those with the sender and number of the frame and another kind, or 0.
+    pub(crate) at: usize,
+    ghost trail: { IsOnTrail history.now place at },
 }
 
 impl<'a> Iterator for Clashes<'a> {
@@ -26,12 +25,12 @@ impl<'a> Iterator for Clashes<'a> {
     ghost remaining = { item_count lines_left };
 
     fn next(&mut self) -> Option<usize> {
-        let i = self.at?;
+        let i = self.at.checked_sub(1)?;
         let history = self.history;
         let frame = history.noted[self.place];
         let earlier = history.noted[i];
         if frame.is_past(&earlier) {
-            self.at = None;
+            self.at = 0;
             return None;
         }
         self.at = history.other_than(frame.seen, earlier.previous);

@@ -4,7 +4,7 @@ ghost use Rattle.std.specs.List.{slice_get};
 ghost use Rattle.std.specs.Option.{option_map};
 ghost use Rattle.clash.specs.Clashes.{frame_at, count, same_sender, same_number, other_kind, partners, clash_lines, IsOnTrail};
 ghost use Rattle.clash.specs.Notes.{Described, seen_in};
-ghost use Rattle.clash.specs.Places.{last_below, spot};
+ghost use Rattle.clash.specs.Places.{last_below};
 ghost use Rattle.clash.specs.Searches.{lines_left};
 ghost use Rattle.clash.specs.Sightings.{shown};
 
@@ -20,7 +20,7 @@ pub struct History {
     pub(crate) noted: Vec<Noted>,
     // How many frames each sender has.
     counts: HashMap<[u8; 6], usize>,
-    // The latest frame with each sequence number of each sender.
+    // One more than the place of the latest frame with each sequence number of each sender.
     numbers: HashMap<(u16, [u8; 6]), usize>,
 }
 
@@ -78,25 +78,30 @@ impl History {
         self.counts.get(&s.sender).copied().unwrap_or(0)
     }
 
-    // The latest frame with the sender and sequence number of `s`.
-    fn previous_of(&self, s: Sighting) -> Option<usize>
-        ensures { spot result ≡ last_below (λ i. same_number (shown s) (frame_at self.now i)) (length self.now) }
+    // One more than the place of the latest frame with the sender and sequence number of `s`, or 0.
+    fn previous_of(&self, s: Sighting) -> usize
+        ensures { result ≡ last_below (λ i. same_number (shown s) (frame_at self.now i)) (length self.now) }
     {
         let sender = s.sender;
-        self.numbers.get(&(s.sequence, sender)).copied()
+        self.numbers
+            .get(&(s.sequence, sender))
+            .copied()
+            .unwrap_or(0)
     }
 
-    // The latest frame with the sender and sequence number of `s` and another kind, where `previous` is the latest of any kind.
-    pub(crate) fn other_than(&self, s: Sighting, previous: Option<usize>) -> Option<usize>
-        requires { (i : ℕ) → spot previous ≡ suc i → (i < length self.now) × (same_number (shown s) (frame_at self.now i) ≡ true) }
-        ensures { spot result ≡ last_below (λ i. other_kind (shown s) (frame_at self.now i)) (spot previous) }
+    // The same of the latest with another kind, where `previous` is that of the latest of any kind.
+    pub(crate) fn other_than(&self, s: Sighting, previous: usize) -> usize
+        requires { (i : ℕ) → previous ≡ suc i → (i < length self.now) × (same_number (shown s) (frame_at self.now i) ≡ true) }
+        ensures { result ≡ last_below (λ i. other_kind (shown s) (frame_at self.now i)) previous }
     {
-        let i = previous?;
+        let Some(i) = previous.checked_sub(1) else {
+            return 0;
+        };
         let frame = self.noted[i];
         if s.kind == frame.seen.kind {
             frame.other
         } else {
-            Some(i)
+            previous
         }
     }
 
@@ -119,21 +124,23 @@ impl History {
     {
         let sender = s.sender;
         let noted = self.described(s);
-        let place = self.noted.len();
         self.counts.reserve(1)?;
         self.numbers.reserve(1)?;
         self.noted.push(noted)?;
         self.counts.insert(sender, noted.rank + 1)?;
-        self.numbers.insert((s.sequence, sender), place)?;
+        self.numbers.insert((s.sequence, sender), self.noted.len())?;
         Ok(())
     }
 
-    // The latest frame that frame `j` may clash with.
-    fn first_for(&self, j: usize) -> Option<usize>
-        ensures trail { IsOnTrail self.now j (spot result) }
-        ensures all { partners self.now j (spot result) ≡ clash_lines self.now j }
+    // One more than the place of the latest frame that frame `j` may clash with, or 0.
+    fn first_for(&self, j: usize) -> usize
+        ensures trail { IsOnTrail self.now j result }
+        ensures all { partners self.now j result ≡ clash_lines self.now j }
     {
-        self.noted.get(j)?.other
+        let Some(noted) = self.noted.get(j) else {
+            return 0;
+        };
+        noted.other
     }
 
     // The lines of the earlier frames that frame `j` clashes with, newest first.

@@ -9,10 +9,10 @@ pub struct Noted {
     pub seen: Sighting,
     // how many earlier frames have this sender
     pub(crate) rank: usize,
-    // the latest earlier frame with this sender and sequence number
-    pub(crate) previous: Option<usize>,
-    // the latest earlier frame with this sender and sequence number, and another kind
-    pub(crate) other: Option<usize>,
+    // one more than the place of the latest earlier frame with this sender and sequence number, or 0: an `Option` takes twice as much
+    pub(crate) previous: usize,
+    // the same of the latest of them with another kind
+    pub(crate) other: usize,
 }
 
 // Frames of one sender clash only if their ranks differ by no more: fewer than 32,768 of its frames lie between them.

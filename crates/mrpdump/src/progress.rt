@@ -9,6 +9,7 @@ use text::{FrameText, Octets};
 
 #[derive(Drop)]
 pub struct Dump {
+    heap: Global,
     line: Line,
     number: usize,
     tally: Tally,
@@ -18,6 +19,7 @@ pub struct Dump {
 impl Dump {
     pub fn new(heap: Global) -> anyhow::Result<Dump> {
         Ok(Dump {
+            heap,
             line: Line::new(),
             number: 1,
             tally: Tally::new(),
@@ -84,10 +86,15 @@ impl Dump {
 
     fn clashes<W: Write>(&self, out: &mut W) -> anyhow::Result<()> {
         for (place, noted) in self.history.noted().iter().enumerate() {
+            let mut earlier = self.history.clashes(place).peekable();
+            if earlier.peek().is_none() {
+                continue;
+            }
             let line = noted.seen.line;
-            let sender = Octets(&noted.seen.sender);
+            // made once, since a frame may have very many clashes
+            let sender = format!(in self.heap; "{}", Octets(&noted.seen.sender))?;
             let sequence = noted.seen.sequence;
-            for first in self.history.clashes(place) {
+            for first in earlier {
                 writeln!(
                     out,
                     "# clash: lines {first} and {line} sender={sender} sequence={sequence}"

@@ -5,7 +5,7 @@ use Rattle.clash.proofs.history.History.first_for.Goals as goal
 pub returns-clause-trail : goal.returns-clause-trail
 returns-clause-trail c =
     let ns = c.self.inside.noted.items in
-    let q = c.in_ok-get.field-0.now in
+    let q = c.in-Some.noted.now in
     let l : c.args.j < length ns = search rules in
     let e : q ≡ get_or ns c.args.j q = search rules in
     (begins ns c.args.self.now c.args.j q c.self.view_is c.self.invariant l e).trail
@@ -13,7 +13,7 @@ returns-clause-trail c =
 pub returns-clause-all : goal.returns-clause-all
 returns-clause-all c =
     let ns = c.self.inside.noted.items in
-    let q = c.in_ok-get.field-0.now in
+    let q = c.in-Some.noted.now in
     let l : c.args.j < length ns = search rules in
     let e : q ≡ get_or ns c.args.j q = search rules in
     (begins ns c.args.self.now c.args.j q c.self.view_is c.self.invariant l e).all

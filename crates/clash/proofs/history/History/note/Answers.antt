@@ -25,6 +25,6 @@ overflow_add-noted c =
 pub invariant_of-self-2 : goal.invariant_of-self-2
 invariant_of-self-2 c =
     let s = shown c.args.s in
-    kept_push c.args.self.now s c.described-noted.result _ _ c.self.invariant c.self.view_is c.described-noted.ensures c.in_ok-push.ensures.items refl (c.len-place.ensures ∙ c.self.inside.noted.ok.0)
+    kept_push c.args.self.now s c.described-noted.result _ _ c.self.invariant c.self.view_is c.described-noted.ensures c.in_ok-push.ensures.items refl (omega (arith, c.len.ensures, c.in_ok-push.ensures.len, c.self.inside.noted.ok.0))
     (λ k. c.in_ok-insert.ensures.updates.0 k ∙ ap (cond (bytes_eq s.sender k) (Some (c.described-noted.result.rank + 1))) (c.reserve.ensures.entries.2 k))
-    (λ k. c.in_ok-insert-2.ensures.updates.0 k ∙ ap (cond (number_eq (number_of s) k) (Some c.len-place.result)) (c.reserve-2.ensures.entries.2 k))
+    (λ k. c.in_ok-insert-2.ensures.updates.0 k ∙ ap (cond (number_eq (number_of s) k) (Some c.len.result)) (c.reserve-2.ensures.entries.2 k))
