@@ -12,8 +12,8 @@ pub struct Lane {
     len: u8,
 }
 
-// A place leads to the one behind it, by a number of one octet, so that the lists take no more room than arrays of their
-// fields would; and it may be in hand.
+// A place leads to the one behind it, and may be in hand. The number has one octet: a `usize` beside the flag would take 16
+// octets in place of 2.
 #[derive(Clone, Copy)]
 pub struct Spot {
     next: u8,
