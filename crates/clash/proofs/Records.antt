@@ -1,9 +1,9 @@
 -- One more frame leaves what stands beside the others, and what is found, right.
-use Rattle.std.proofs.Common.{◌≡◌, ℕ, ◌<◌, Bool, List, [], ◌∷◌, ◌++◌, map, length, Option, Some, cond, suc, ◌+◌, ◌&&◌, sym, refl, subst, ap, ◌∙◌, ap₂, subst₂, inl, inr, arith}
+use Rattle.std.proofs.Common.{◌≡◌, ℕ, zero, ◌<◌, Bool, List, [], ◌∷◌, ◌++◌, map, length, Option, Some, cond, suc, ◌+◌, ◌&&◌, sym, refl, subst, ap, ◌∙◌, ap₂, subst₂, inl, inr, arith}
 use lib.ListN.{length-map}
 use Rattle.clash.specs.Clashes.{frame_at, nobody, count, same_sender, same_number, other_kind}
 use Rattle.clash.specs.Notes.{Recorded, Counted, Latest, Kept, Described, number_eq, number_of, seen_in}
-use Rattle.clash.specs.Places.{last_below}
+use Rattle.clash.specs.Places.{last_below, entry}
 use Rattle.clash.proofs.Counts.{count_same}
 use Rattle.clash.proofs.Lasts.{last_same}
 use Rattle.std.specs.Map.{count_at}
@@ -100,12 +100,12 @@ latest_push es s g g' n h e u k =
       | inl t ↦ (
           let found : g' k ≡ Some n = u k ∙ rw (number_sym k (number_of s) ∙ t) refl in
           let here : last_below q (length (es ++ s ∷ [])) ≡ length (es ++ s ∷ []) = grown ∙ rw t refl in
-          ap (λ (o : Option ℕ). unwrap_or o 0) found ∙ omega (arith, here, e, long es s)
+          found ∙ ap Some e ∙ sym (ap entry (here ∙ long es s))
           )
       | inr x ↦ (
           let found : g' k ≡ g k = u k ∙ rw (number_sym k (number_of s) ∙ x) refl in
           let gone : last_below q (length (es ++ s ∷ [])) ≡ last_below p (length es) = grown ∙ rw x refl in
-          ap (λ (o : Option ℕ). unwrap_or o 0) found ∙ h k ∙ sym gone
+          found ∙ h k ∙ sym (ap entry gone)
           )
     ]
 
@@ -117,7 +117,7 @@ kept_same {f' = f'} {g' = g'} w e u v =
       preceded = w.preceded;
       differed = w.differed;
       counted = λ k. ap (λ (o : Option ℕ). unwrap_or o 0) (u k) ∙ w.counted k;
-      latest = λ k. ap (λ (o : Option ℕ). unwrap_or o 0) (v k) ∙ w.latest k;
+      latest = λ k. v k ∙ w.latest k;
     }
 
 -- a history with one more frame
@@ -139,5 +139,13 @@ kept_push {ns} {ns'} {f} {f'} {g} {g'} es s r m n w v d e x y u z =
 pub counted_at : {ns : List Noted} {f : List ℕ → Option ℕ} {g : ℕ × List ℕ → Option ℕ} (es : List Seen) → Kept ns f g → seen_in ns ≡ es → (k : List ℕ) → count_at f k ≡ count (λ i. bytes_eq k (frame_at es i).sender) (length es)
 counted_at {f = f} es w v k = subst (λ (xs : List Seen). count_at f k ≡ count (λ i. bytes_eq k (frame_at xs i).sender) (length xs)) v (w.counted k)
 
-pub latest_at : {ns : List Noted} {f : List ℕ → Option ℕ} {g : ℕ × List ℕ → Option ℕ} (es : List Seen) → Kept ns f g → seen_in ns ≡ es → (k : ℕ × List ℕ) → count_at g k ≡ last_below (λ i. number_eq k (number_of (frame_at es i))) (length es)
-latest_at {g = g} es w v k = subst (λ (xs : List Seen). count_at g k ≡ last_below (λ i. number_eq k (number_of (frame_at xs i))) (length xs)) v (w.latest k)
+pub latest_at : {ns : List Noted} {f : List ℕ → Option ℕ} {g : ℕ × List ℕ → Option ℕ} (es : List Seen) → Kept ns f g → seen_in ns ≡ es → (k : ℕ × List ℕ) → g k ≡ entry (last_below (λ i. number_eq k (number_of (frame_at es i))) (length es))
+latest_at {g = g} es w v k = subst (λ (xs : List Seen). g k ≡ entry (last_below (λ i. number_eq k (number_of (frame_at xs i))) (length xs))) v (w.latest k)
+
+or_none : (n : ℕ) → unwrap_or (entry n) 0 ≡ n
+or_none zero = refl
+or_none (suc i) = refl
+
+-- the same, with 0 for no entry
+pub latest_count_at : {ns : List Noted} {f : List ℕ → Option ℕ} {g : ℕ × List ℕ → Option ℕ} (es : List Seen) → Kept ns f g → seen_in ns ≡ es → (k : ℕ × List ℕ) → count_at g k ≡ last_below (λ i. number_eq k (number_of (frame_at es i))) (length es)
+latest_count_at es w v k = ap (λ (o : Option ℕ). unwrap_or o 0) (latest_at es w v k) ∙ or_none (last_below (λ i. number_eq k (number_of (frame_at es i))) (length es))

@@ -3,7 +3,7 @@ use Rattle.std.specs.Prelude.{◌≡◌, ℕ, ◌<◌, Bool, ◌&&◌, List, map
 use Rattle.std.specs.Map.{count_at}
 use Rattle.std.specs.Str.{bytes_eq}
 use Rattle.clash.specs.Clashes.{frame_at, count, same_sender, same_number, other_kind}
-use Rattle.clash.specs.Places.{last_below}
+use Rattle.clash.specs.Places.{last_below, entry}
 use Rattle.clash.specs.Sightings.{Seen, shown}
 use Rattle.clash.specs.declared.noted.Noted.{Noted}
 
@@ -37,9 +37,9 @@ number_of s = (s.sequence, s.sender)
 abbrev pub number_eq : ℕ × List ℕ → ℕ × List ℕ → Bool
 number_eq a b = nat_eq a.0 b.0 && bytes_eq a.1 b.1
 
--- which frame is the latest with each number: one more than its place
+-- which frame is the latest with each number: one more than its place, and no entry where no frame has it
 abbrev pub Latest : List Seen → (ℕ × List ℕ → Option ℕ) → Type 0
-Latest es f = (k : ℕ × List ℕ) → count_at f k ≡ last_below (λ i. number_eq k (number_of (frame_at es i))) (length es)
+Latest es f = (k : ℕ × List ℕ) → f k ≡ entry (last_below (λ i. number_eq k (number_of (frame_at es i))) (length es))
 
 -- what is true of a history: what stands beside its frames, and what is found by a sender and by a number of a sender
 pub record Kept (ns : List Noted) (counts : List ℕ → Option ℕ) (numbers : ℕ × List ℕ → Option ℕ) : Type 0 where
